@@ -10,7 +10,8 @@ const ERRORS = 4096;
 const ANSWER = 24; // status in 4 bytes, 4 unused, the length of the output and of the errors in 8 each
 const HANDLE = 16; // whether it is live in 1 byte, 7 unused, where it stands in 8
 const TOLD = 8;    // a length in 8 bytes; or the position and the number of events in 4 each
-const ROOM = 1 << 16; // bytes that a text is given at first
+const ROOM = 1 << 16; // bytes that a text of a session is given at first
+const OUTPUT = (1 << 22) - 16; // bytes for the output of a command: a block of the heap with its header, so that few outputs are made twice
 
 // The statuses of sessions (include/asl.h) by the names that the program has for them, where it has one.
 const STATUSES = { 2: 'OutOfMemory', 3: 'BadHandle', 4: 'BadThread', 11: 'BadCount', 12: 'NoProgram', 13: 'NoSuchStep', 14: 'NotAtEnd',
@@ -54,7 +55,7 @@ function callerOf(wasm, { at, take, give, look }) {
     taken.forEach(give);
     return { length, said, result };
   };
-  let room = ROOM; // for the output; it grows to the largest that was seen
+  let room = OUTPUT; // it grows to the largest output that was seen
   return (words, input = '') => {
     const list = encoder.encode(listOf(words)), bytes = bytesOf(input), given = room;
     const { length, said, result } = once(list, bytes, given, ERRORS);

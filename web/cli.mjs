@@ -1,13 +1,9 @@
 #!/usr/bin/env -S node --experimental-wasm-memory64
 // The program `asl` where no kit is: node --experimental-wasm-memory64 web/cli.mjs compile --text < examples/counter.asl
-// `run` is not here, since it starts threads. The module is asl.wasm beside this file, or in the folder out/ there; where there is none,
-// the one that docs/workbench.html carries.
-import { existsSync, readFileSync, readSync, writeSync } from 'node:fs';
-import { gunzipSync } from 'node:zlib';
-import { loadAsl } from './asl.mjs';
+// `run` is not here, since it starts threads. Which module it takes, module.mjs says.
+import { readSync, writeSync } from 'node:fs';
+import { openAsl } from './module.mjs';
 
-const near = name => new URL(name, import.meta.url);
-const MODULE = process.env.ASL_WASM || ['asl.wasm', 'out/asl.wasm'].map(near).find(path => existsSync(path));
 const MOST_INPUT = 268435456;
 const HELP = ['--help', '-h', '--version', '-V'];
 
@@ -62,18 +58,10 @@ function run(asl, words) {
   return end(status, errors);
 }
 
-// (src/ has modules of the page, which Node takes for such only by their text)
-async function moduleOfPage() {
-  const script = encodeURIComponent(readFileSync(near('src/base85.js'), 'utf8'));
-  const { fromBase85 } = await import('data:text/javascript,' + script);
-  const [, letters] = /id="wasm">\s*([^<]*?)\s*</.exec(readFileSync(near('../docs/workbench.html'), 'latin1'));
-  return gunzipSync(fromBase85(letters));
-}
-
 // Node before 24 takes a 64-bit memory only where it is asked to.
 async function loaded() {
   try {
-    return await loadAsl(MODULE ? readFileSync(MODULE) : await moduleOfPage());
+    return await openAsl();
   } catch (error) {
     if (/memory64/.test(error.message)) return end(2, 'asl: Node before 24 needs the option --experimental-wasm-memory64\n');
     throw error;

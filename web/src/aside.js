@@ -12,6 +12,13 @@ export class Failed extends Error {}
 // What becomes of a work whose call may be dropped.
 export const unlessDropped = promise => promise.catch(error => { if (!(error instanceof Dropped)) throw error; });
 
+// Does a work again whose call was dropped for another text; not one that was stopped.
+export async function untilDone(work) {
+  for (;;) {
+    try { return await work(); } catch (error) { if (!(error instanceof Dropped) || error instanceof Stopped) throw error; }
+  }
+}
+
 export class Aside {
   // `makeWorker` may throw; `call` is the page's own toolchain; `told` hears whether somebody waits.
   constructor(makeWorker, call, told) {

@@ -16,8 +16,8 @@ export class Comparison {
     clearTimeout(this.timer);
     this.turn++;
     this.blocked = [];
-    const { kind, run, refusal, builtText } = this.bench;
-    if (kind !== 'asl' || !run || refusal || !run.length || run.length > MOST_EVENTS || !run.program.lists.length) return;
+    const { kind, run, refusal, builtText, ownBuilt } = this.bench;
+    if (kind !== 'asl' || ownBuilt || !run || refusal || !run.length || run.length > MOST_EVENTS || !run.program.lists.length) return;
     if (this.text !== builtText) Object.assign(this, { text: builtText, images: [] });
     this.timer = setTimeout(() => unlessDropped(this.ask(this.turn)), PAUSE);
   }

@@ -21,8 +21,11 @@ function standalone(node) {
   return copy;
 }
 
+export const titleOf = ({ run, title, k, kind }) =>
+  `${title}, ${kind === 'asl' ? `k ${k}, ` : ''}${count(run.threads, 'thread')}, ${count(run.length, 'event')}`;
+
 export function pictureOf(bench) {
-  const dark = isDark(), box = byId('print-lanes'), { run, title, k, kind } = bench;
+  const dark = isDark(), box = byId('print-lanes');
   setDark(false);
   printTimeline(bench);
   const rows = [...box.children], size = (row, name) => Number(row.getAttribute(name));
@@ -35,7 +38,7 @@ export function pictureOf(bench) {
     return copy;
   });
   const whole = make(svg('svg', { viewBox: `0 0 ${width} ${height}`, width, height, role: 'img' },
-    svg('title', {}, `${title}, ${kind === 'asl' ? `k ${k}, ` : ''}${count(run.threads, 'thread')}, ${count(run.length, 'event')}`),
+    svg('title', {}, titleOf(bench)),
     svg('rect', { width, height, fill: getComputedStyle(byId('s-time')).backgroundColor })));
   whole.append(standalone(document.querySelector('.patterns defs')), ...placed);
   renew(box);

@@ -41,9 +41,15 @@ function blocked(bench, k, event, openWhy) {
   if (since) told.push(' ', el('button',
     { class: 'link', 'data-keep': 'since', title: 'To the event that took it (h)', onclick: () => bench.go(since.from + 1) },
     'since event ' + since.from));
-  const more = new Set(clashes.map(c => c.thread)).size - 1;
-  if (more) told.push(` (and ${more} more in the way)`);
-  return [...told, '. Nothing changed; it must try again.'];
+  return [...told, elsewhere(bench, clashes), '.', el('span', { class: 'long' }, ' Nothing changed; it must try again.')];
+}
+
+// The clashes at the other nodes with the same holder, and how many more threads are in the way.
+function elsewhere(bench, [first, ...rest]) {
+  const also = rest.filter(({ thread }) => thread === first.thread), others = new Set(rest.map(c => c.thread)).size - (also.length ? 1 : 0);
+  const at = ({ node, asks, holds }) => ['; at ', strong(bench.names.shortNode(node)), ', too: ', strong(asks), ' against ', strong(holds)];
+  return [also.map(at),
+    others ? ` (and ${count(others, 'more thread')} in the way)` : ''];
 }
 
 // Why the list of the section asks that, which is known of a source.
@@ -117,6 +123,7 @@ export function nextSentence(bench) {
   const { next, names } = bench;
   if (!next && !bench.position && bench.run.threads > 1) return ['To see a thread wait, press ', el('kbd', {}, 'n'),
     ' or “Until blocked”: the threads step in turn until one must.'];
+  if (!next && bench.state.threads.every(thread => thread.status !== 'runs')) return ['All threads have ended.'];
   if (!next) return bench.position ? ['The run ends here; step any thread to go on.'] : [];
   return ['Next: ', chip(next.thread), ' ',
     next.pc >= 0 ? [code(names.statement(next.pc)), ` (${names.where(next.pc)})`] : 'once more, though it has ended'];

@@ -3,9 +3,11 @@
 import { loadAsl } from '../asl.mjs';
 import { fromBase85 } from './base85.js';
 
+// What the page carries packed: gzip in base 85.
+export const unpacked = letters => new Response(new Blob([fromBase85(letters)]).stream().pipeThrough(new DecompressionStream('gzip')));
+
 export async function loadTool(letters) {
-  const stream = new Blob([fromBase85(letters)]).stream().pipeThrough(new DecompressionStream('gzip'));
-  const module = await WebAssembly.compile(await new Response(stream).arrayBuffer());
+  const module = await WebAssembly.compile(await unpacked(letters).arrayBuffer());
   return { module, call: await loadAsl(module) };
 }
 

@@ -41,7 +41,7 @@ export const compileText = (source, k, behind) => text(ofText(['compile', '--k',
 // Whether the lists of a program are enough for a source. (Of a lesson, which a newer text does not end.)
 export const checkLists = (source, program, k) => text(ofRun(['check', '--k', k], `${source}\0${program}`));
 export const mapText = source => text(ofText(['map'], source));
-export const explainText = (source, k) => text(ofText(['explain', '--k', k], source));
+export const explainText = (source, k, all) => text(ofText(['explain', '--k', k, ...(all ? ['--all'] : [])], source));
 export const diagnoseText = (source, k) => text(ofText(['diagnose', '--k', k], source));
 export const diagnoseAssembly = source => text(ofText(['diagnose', '--asm'], source));
 export const assemble = source => ofText(['asm'], source);

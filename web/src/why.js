@@ -2,20 +2,23 @@
 
 import { explainText } from './toolchain.js';
 
-const known = { text: '', k: -1, answer: null }; // the last answer has all sections of its text
+const ADVICE = ' (--all shows them)'; // of a command line; the page has a button
+const known = { text: '', k: -1, all: false, answer: null }; // the last answer has all sections of its text
 
-async function explained(text, k) {
-  if (known.text !== text || known.k !== k) Object.assign(known, { answer: await explainText(text, k), text, k });
+async function explained(text, k, all) {
+  if (known.text !== text || known.k !== k || known.all !== all)
+    Object.assign(known, { answer: await explainText(text, k, all), text, k, all });
   return known.answer;
 }
 
-export async function whyText(bench, section) {
-  if (bench.kind !== 'asl') return 'Reasons are found in a source. This program has lists of its own.';
-  const answer = await explained(bench.builtText, bench.builtK);
-  if (answer.refusal) return answer.refusal;
+// The words, and whether there are more of them.
+export async function whyText(bench, section, all = false) {
+  if (bench.kind !== 'asl') return { words: 'Reasons are found in a source. This program has lists of its own.' };
+  const answer = await explained(bench.builtText, bench.builtK, all);
+  if (answer.refusal) return { words: answer.refusal };
   const parts = answer.text.split(/^(?=section \d+, )/m);
   const own = parts.find(part => part.startsWith(`section ${section}, `));
   // (a button that is not drawn anew yet may be of the program before)
-  if (!own) return `The program has changed meanwhile: it has no section ${section} now.`;
-  return own.trimEnd();
+  if (!own) return { words: `The program has changed meanwhile: it has no section ${section} now.` };
+  return { words: own.trimEnd().replaceAll(ADVICE, ''), more: own.includes(ADVICE) };
 }

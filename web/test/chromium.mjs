@@ -101,6 +101,12 @@ export async function openChromium(binary = process.env.CHROMIUM || 'chromium') 
       const { result } = await send('Page.printToPDF', { printBackground: true });
       writeFileSync(path, Buffer.from(result.data, 'base64'));
     },
-    async close() { socket.close(); child.kill(); await sleep(300); rmSync(profile, { recursive: true, force: true, maxRetries: 5 }); },
+    async close() {
+      socket.close();
+      child.kill();
+      await sleep(300);
+      // (processes of its own may write there for a moment longer)
+      try { rmSync(profile, { recursive: true, force: true, maxRetries: 5, retryDelay: 200 }); } catch { await sleep(2000); rmSync(profile, { recursive: true, force: true, maxRetries: 5, retryDelay: 200 }); }
+    },
   };
 }

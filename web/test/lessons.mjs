@@ -1,16 +1,13 @@
-// The six lessons, each done to its end by keys alone: what is pressed is found as a reader would, from what the page says.
-import { asl, browser, check, key, open, part, run, settled, textOf } from './kit.mjs';
+// The lessons, each done to its end by the keys that its file has for each step.
+import { readFileSync, readdirSync } from 'node:fs';
+import { fileURLToPath } from 'node:url';
+import { browser, check, key, open, part, run, settled, textOf } from './kit.mjs';
+import { readLesson } from '../src/lessontext.js';
+import { EXAMPLES } from './paths.mjs';
+
+const LESSONS = fileURLToPath(new URL('../lessons/', import.meta.url));
 
 const done = () => run("document.querySelectorAll('#s-lesson:not([hidden]) li.done').length");
-const thread = t => textOf(`[data-thread^="thread ${t} "]`);
-
-// Presses a key until the page says what is waited for.
-async function press(name, is, most = 130) {
-  for (let i = 0; i < most; i++) { if (await is()) return true; await key(name); }
-  return is();
-}
-const tick = (name, number, most) => press(name, async () => await done() >= number, most);
-
 // Goes to an element by Tab, and says how many presses that took.
 async function tabTo(selector, most = 90) {
   for (let i = 0; i <= most; i++) {
@@ -28,57 +25,50 @@ async function openLesson(number) {
   check((await textOf('#lesson-title')).startsWith(`Lesson ${number}:`), `lesson ${number} opens`);
 }
 
-const WAYS = [
-  async () => { await tick('0', 1); await tick('1', 2); await tick('0', 3); await tick('1', 4); await tick('B', 5); },
-  async () => {
-    await press('0', async () => await done() >= 1);
-    await press('1', async () => /done/.test(await thread(1)));
-    await tick('0', 2);
-    await key('Home');
-    check(await tabTo('#example') >= 0, 'the examples are reached');
-    await key('c'); await settled();
-    check(await run("document.activeElement.id") === 'example', 'the focus stays in the list of examples');
-    await key('Escape');
-  },
-  async () => {
-    await press('1', async () => /^T1runs.*transfer/.test(await thread(1)));
-    await press('0', async () => /in a section.*transfer/.test(await thread(0)));
-    await tick('1', 1, 2); await key('k'); await settled(); await tick('1', 2, 2);
-  },
-  async () => {
-    await tick('n', 1);
-    const [, holder] = / T(\d+) holds/.exec((await textOf('#say')).replace(/\s+/g, ' ')) || [];
-    await tick(holder, 2, 1); await tick('r', 3);
-  },
-  async () => { await tick('0', 1); await tick('0', 2); },
-  async () => {
-    const append = async line => {
-      await key('e');
-      for (let i = 0; i < 40; i++) await browser.strike('ArrowDown');
-      await browser.typed(line + '\n');
-      await key('Escape'); await settled(); await settled();
-      check(await run("document.getElementById('complaint').hidden"), 'what was typed is accepted: ' + await textOf('#complaint'));
-    };
-    await tick('0', 1);
-    await append('expr r1 write');
-    await tick('r', 2, 2);
+// Plays a step by the keys that its file has for it.
+const NAMED = { Left: 'ArrowLeft', Right: 'ArrowRight', Up: 'ArrowUp', Down: 'ArrowDown' };
+let pressed = 0;
+async function press(word, right) {
+  const [, name, times = 1] = /^(.+?)(?:\*(\d+))?$/.exec(word), focus = FOCUS[name] || /^list\d+$/.test(name) && `[data-list="${name.slice(4)}"]`;
+  if (focus) {
+    if (name === 'right') await run(`document.querySelectorAll('.choices button').forEach(b => { if (b.textContent === ${JSON.stringify(right)}) b.dataset.right = 1; })`);
+    await run("document.querySelector('header button').focus()"); // (Firefox without a window loses its keys where Tab goes past the page's end)
+    check(await tabTo(focus, 160) >= 0, `${focus} is reached`);
+    if (!name.startsWith('list')) { await key('Enter'); await settled(); }
+    return;
+  }
+  for (let i = 0; i < times; i++) { await key(NAMED[name] || name); pressed++; }
+}
+const FOCUS = { open: '[data-keep="lesson-open"]', right: '[data-right="1"]' };
+async function play(step) {
+  for (const line of step.keys) {
+    if (line.startsWith('type ')) { await browser.typed(line.slice(5) + '\n'); await settled(); await settled(); continue; }
+    for (const word of line.split(/\s+/)) await press(word, step.right);
     await settled();
-    check(await done() === 2 && /not enough, section 1 needs expr r2 write/.test(await textOf('#lesson-end')), 'one run is not enough: ' + await textOf('#lesson-end'));
-    await append('expr r2 write');
-    const source = await textOf('#lesson-source pre'), text = await run('workbench.bench.text');
-    check(asl(['check', '--k', 0], source + '\0' + text).toString() === 'checked 2 sections\n', 'the program accepts the list');
-  },
-];
-// What each lesson tells at its end.
-const ANSWERS = [/0 0 1 1/, /still one addition is lost/, /^Done\. k 1\./, /no circle/, /The end of the section/, /expr r2 write/];
+  }
+  await settled();
+}
 
-await part('the six lessons, each to its end, by keys alone', async () => {
+const examples = Object.fromEntries(readdirSync(EXAMPLES).filter(name => /\.as[lm]$/.test(name))
+  .map(name => [name, { text: readFileSync(EXAMPLES + name, 'utf8'), kind: name.slice(-3) }]));
+export const FILES = readdirSync(LESSONS).filter(name => name.endsWith('.lesson')).sort().map(name => readFileSync(LESSONS + name, 'utf8'));
+
+await part('every lesson, to its end, by the keys of its own file', async () => {
   await open();
-  for (const [i, way] of WAYS.entries()) {
+  for (const [i, file] of FILES.entries()) {
+    const { lesson, refusals } = readLesson(file, examples);
+    check(lesson, `lesson ${i + 1}: ${JSON.stringify(refusals)}`);
     await openLesson(i + 1);
-    await way();
-    const end = await textOf('#lesson-end');
-    check(end.startsWith('Done') && ANSWERS[i].test(end), `lesson ${i + 1}: ${await done()} steps done, ${end} ${await textOf('#say')}`);
+    check(await done() === 0, `lesson ${i + 1} begins with nothing done`);
+    pressed = 0;
+    for (const [n, step] of lesson.steps.entries()) {
+      check(!step.keys.length || await done() <= n, `lesson ${i + 1}: step ${n + 1} is done before it is played`);
+      await play(step);
+      check(await done() > n, `lesson ${i + 1}: step ${n + 1} is done: ${await textOf('#say')} ${await textOf('#own-verdict')} ${await textOf('#complaint')}`);
+    }
+    check(await textOf('#lesson-end') === 'Done. ' + lesson.answer.replaceAll('`', ''), `lesson ${i + 1}: ${await textOf('#lesson-end')}`);
+    if (i === 2) check(pressed <= 15, `lesson 3 takes ${pressed} keys`);
+    console.log(`       lesson ${i + 1}: ${pressed} keys`);
   }
 });
 

@@ -1,11 +1,11 @@
 // Tests of the workbench in a browser without a window, against the native program.
-//   node --experimental-websocket web/test/page.mjs [--firefox] [WORD..]     WORDs are of the names of the parts to do
+//   node --experimental-websocket web/test/page.mjs [--firefox] [--group=N] [WORD..]     WORDs are of the names of the parts to do
 import { mkdtempSync, readFileSync, readdirSync, writeFileSync } from 'node:fs';
 import { tmpdir } from 'node:os';
 import { join } from 'node:path';
 import { fileURLToPath } from 'node:url';
 import { deflateRawSync } from 'node:zlib';
-import { asl, at, browser, calm, check, finish, hasMemory64, key, open, part, run, settled, textOf } from './kit.mjs';
+import { asl, at, beginGroup, browser, calm, check, finish, hasMemory64, key, open, part, run, settled, textOf } from './kit.mjs';
 import { EXAMPLES, PAGE } from './paths.mjs';
 
 const type = async text => {
@@ -438,7 +438,7 @@ await part('a share link restores everything', async () => {
 
 // What a button of the share dialog saves, as text.
 const savedBy = words => run(`(async () => { const made = URL.createObjectURL, { click } = HTMLAnchorElement.prototype; let saved;
-  URL.createObjectURL = blob => made.call(URL, saved = blob); HTMLAnchorElement.prototype.click = () => {};
+  URL.createObjectURL = blob => made.call(URL, /octet/.test(blob.type) ? saved = blob : blob); HTMLAnchorElement.prototype.click = () => {};
   [...document.querySelectorAll('.files button')].find(e => e.textContent === '${words}').click();
   await new Promise(done => setTimeout(done, 300));
   URL.createObjectURL = made; HTMLAnchorElement.prototype.click = click; return saved.text(); })()`);
@@ -474,7 +474,7 @@ await part('files: a run file, an image, an assembly text', async () => {
   check(await run("workbench.bench.kind + workbench.bench.title") === 'asmz.asm', 'image as assembly');
   const broken = [...bytes.slice(0, -1), 0];
   await run(`workbench.loadFile('broken.run', new Uint8Array(${JSON.stringify(broken)}))`);
-  check(await run("document.getElementById('note').textContent.includes('Differs(3)')"), 'a journal that is none');
+  check(await run("/does not belong to this program: at event 3/.test(document.getElementById('trouble').textContent)"), 'a journal that is none');
 });
 
 await part('a source with </script> and <img onerror> stays text', async () => {
@@ -514,6 +514,16 @@ await part('no sideways scrolling at 420 px', async () => {
   await browser.size(1400, 1000);
 });
 
+beginGroup();
+await import('./lecture.mjs');
+await import('./keeping.mjs');
+await import('./opening.mjs');
+await import('./large.mjs');
+await import('./words.mjs');
 await import('./waiting.mjs');
+beginGroup();
+await import('./own.mjs');
+await import('./go.mjs');
+await import('./lessonfiles.mjs');
 await import('./lessons.mjs');
 await finish();

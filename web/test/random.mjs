@@ -17,7 +17,16 @@ const EXAMPLES = ['counter.asl', 'lost.asl', 'walk.asl', 'move.asl', 'bank.asl',
 const STEPS = ['0', '1', '2', '3', '0', '1'];
 const MOVES = ['ArrowLeft', 'ArrowRight', 'Home', 'End', 'b', 'B', 'o', 'O', 'h', '[', ']', 'f', 'F', 'w'];
 const CHANGES = ['r', 'R', 'n', 'u', 'U', 'c', 'k', 'K', 't', 'T'];
-const LOOKS = ['m', 'l', '+', '-', 'L', 'd', 'A', 'a', ' '];
+const FURTHER = ['g', 'G', 'Y', 'g', 'G', '.', ',', 'p'];
+const LOCKS = ['', 'root write\n', 'expr r1 write\n', 'expr r0 read\nclass 0 write\n', 'expr r9', 'list\n'];
+const LESSON = 'lesson x\nexample ${NAME}\nstep a\nuntil ${CONDITION}\nstep b\nchoice c\nchoice d\nright d\n';
+const CONDITIONS = ['some thread is blocked', 'all threads have ended', 'lists are enough', 'no object is fresh', 'thread 0 has met a fault', 'thread 9 is up'];
+const LOOKS = ['m', 'l', '+', '-', 'L', 'd', 'A', 'a', ' ', 'y', 'M', 'V'];
+const VIEWS = ['view=code,time,locks', 'view=heap,threads&size=13', 'lecture', 'lecture&size=25', 'theme=dark', 'view=time&lecture', 'keys=off&view=code'];
+// What a person may have as a file: each kind, whole and broken.
+const FILES = { 'mine.asl': 'global g; fn main(t) { p = &g; atomic { *p = t; } return t; }', 'bad.asl': 'fn main(t) { x = ; }',
+  'both.workbench': 'workbench 1\ntitle both.asl\nthreads 3\nsteps 0*3 1 2\nat 4\nnote 1 here\ntext\nglobal g; fn main(t) { p = &g; atomic { *p = t; } return t; }',
+  'broken.workbench': 'workbench 1\nk 99\ntext\n', 'cut.img': 'ASLM\x00\x02', 'cut.run': '\x00\x00\x00\x05ASLMxx', 'list.asm': 'version 2\nclasses 1\nglobal 0\n' };
 const TEXTS = [' ', ';', '{', '}', 'x', 'global more;', 'atomic {', '<b>', '\n', '=', '*', '\u202e'];
 
 const browser = await openChromium();
@@ -27,6 +36,10 @@ const click = selector => `(() => { const all = [...document.querySelectorAll(${
 const edit = () => `(() => { const t = document.getElementById('text'), at = ${below(100000)} % (t.value.length + 1);
   t.focus(); t.setRangeText(${JSON.stringify(one(TEXTS))}, at, Math.min(t.value.length, at + ${below(3)}), 'end');
   t.dispatchEvent(new Event('input')); t.blur(); })()`;
+const HAND_IN = `(async () => { document.getElementById('hand-link')?.click(); await new Promise(done => setTimeout(done, 60));
+  const link = document.getElementById('handed')?.textContent;
+  document.getElementById('dialog').close();
+  if (link) location.hash = link.slice(link.indexOf('#')); })()`;
 const ACTIONS = [
   [30, () => browser.strike(one(STEPS))], [20, () => browser.strike(one(MOVES))], [16, () => browser.strike(one(CHANGES))],
   [5, () => browser.strike(one(LOOKS))],
@@ -35,10 +48,42 @@ const ACTIONS = [
   [6, () => browser.run(click('.head, .k, svg.lanes, #strip, #events tr, .link, .register, .cell'))],
   [2, async () => { await browser.strike(one(['x', 's', '?', 'j'])); await browser.sleep(20); await browser.strike('Escape'); }],
   [2, () => browser.run(`document.getElementById('slide').value = ${below(400)}; document.getElementById('slide').dispatchEvent(new Event('input'))`)],
-  [1, () => browser.run(`location.hash = '#lesson=${1 + below(6)}'`)],
+  [8, () => browser.strike(one(FURTHER))],
+  [2, () => browser.strike(one(['v', 'P']))],
+  // a list by hand; an answer to a prediction, a choice, another button of a lesson or of the lists
+  [4, () => browser.run(`(() => { const all = document.querySelectorAll('#own-lists textarea'), t = all[${below(100)} % all.length]; if (!t) return;
+    t.focus(); t.value = ${JSON.stringify(one(LOCKS))}; t.dispatchEvent(new Event('input')); t.blur(); })()`)],
+  [6, () => browser.run(click('#answer-close, .answers button, .choices button, #s-lesson .link, #s-own .link, #go button, #numbers .row, #gutter .row'))],
+  // a line to go to; what was done is handed in, and opened
+  [1, async () => { await browser.strike('I'); await browser.sleep(20); await browser.strike(one(['1', '5', '9'])); await browser.strike('Enter'); }],
+  [1, async () => { await browser.strike('H'); await browser.sleep(30); await browser.run(HAND_IN); }],
+  [1, () => browser.run(`workbench.loadFile('x.lesson', new TextEncoder().encode(${JSON.stringify(LESSON.replace('${NAME}', one(EXAMPLES)).replace('${CONDITION}', one(CONDITIONS)))}))
+    .then(() => document.getElementById('dialog').close())`)],
+  [1, () => browser.run(`location.hash = '#lesson=${1 + below(9)}'`)],
   [1, () => browser.run(`location.hash = '#example=${one(EXAMPLES)}&k=${below(9)}&threads=${1 + below(20)}&steps=00112210&at=${below(9)}'`)],
   [1, () => browser.size(one([420, 844, 1024, 1400]), one([390, 768, 1000]))],
 ];
+// Opens a few files at once.
+function openSome() {
+  const names = Array.from({ length: 1 + below(3) }, () => one(Object.keys(FILES)));
+  const files = names.map(name => `{ name: '${name}', bytes: new TextEncoder().encode(${JSON.stringify(FILES[name])}) }`);
+  return browser.run(`workbench.openFiles([${files}]).catch(() => {})`);
+}
+// A dialog with a field: something is written there, and taken or not.
+async function writeInto(key, field, words) {
+  await browser.strike(key);
+  await browser.sleep(20);
+  await browser.run(`(() => { const f = document.getElementById('${field}'); if (f) f.value = ${JSON.stringify(words)}; })()`);
+  await browser.strike(one(['Enter', 'Enter', 'Escape']));
+}
+const LONG = `global g; fn main(t) {\n${'  x = t + t;\n'.repeat(3000)}  return t; }`;
+ACTIONS.push([3, openSome], [1, () => browser.strike('N')], [2, () => writeInto('z', 'note-words', one(['a note', '', '<b>', '\u202e']))],
+  [2, () => writeInto('i', 'link', one(['x#example=bank.asl&k=1', 'x#lesson=2&steps=0101&at=2', 'x#asl=%%%', 'nothing']))],
+  [1, () => browser.run(`location.hash = '#example=${one(EXAMPLES)}&threads=2&steps=0101&${one(VIEWS)}'`)],
+  [1, () => browser.run("location.hash = '#example=counter.asl&threads=2'")],
+  [1, () => browser.run(click('#trouble-close, #away button, #notes .link, #menu, #lists, #whole'))],
+  [1, () => browser.run(`document.getElementById('editor').scrollTop = ${below(60000)}`)],
+  [1, () => browser.run(`workbench.bench.load({ text: ${JSON.stringify(LONG)}, kind: 'asl', title: 'long.asl' }).then(() => 1)`)]);
 const whole = ACTIONS.reduce((sum, [weight]) => sum + weight, 0);
 function action() {
   let at = below(whole);

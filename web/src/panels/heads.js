@@ -32,11 +32,11 @@ function headWords(bench, thread, t, wait, plan) {
   if (thread.status !== 'runs') return el('span', { class: 'todo soft' },
     thread.status === 'done' ? '✓ done' : '▲ ' + thread.fault);
   const words = el('code', {}, bench.names.statement(thread.pc));
-  const where = el('small', {}, outlook(bench, thread, t, wait) || bench.names.where(thread.pc));
+  const where = el('small', {}, (!bench.asks && outlook(bench, thread, t, wait)) || bench.names.where(thread.pc));
   return el('span', { class: 'todo' + (plan.step < 38 ? ' one' : '') }, words, where);
 }
 
-// Whether the next step of a thread at an `atomic` would be blocked.
+// Whether the next step of a thread at an `atomic` would be blocked. (Where that is to be predicted, it is not told.)
 function outlook(bench, thread, t, wait) {
   if (bench.run.threads > MANY || thread.depth || !bench.program.code[thread.pc].startsWith('acq ')) return wait ? '⊠ blocked' : '';
   const [clash] = bench.run.request(bench.position, t).clashes;

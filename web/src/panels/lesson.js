@@ -1,86 +1,121 @@
 // A lesson beside the panels: its steps, those done ticked, the present one with a hint on request.
 
-import { byId, el, renew, setText, withCode } from '../dom.js';
-import { unlessDropped } from '../aside.js';
-import { LESSONS } from '../lessons.js';
-import { checkLists, compileText } from '../toolchain.js';
+import { byId, el, renew, setText, whenDrawn, withCode } from '../dom.js';
+import { LESSONS, addLesson, advance, chosen, examplesOf, endLesson, isForbidden, isOpened, isOver, isOfPage, lesson,
+  openingAt } from '../lessons.js';
+import { readLesson } from '../lessontext.js';
+import { checkLesson } from '../lessoncheck.js';
+import { untilDone } from '../aside.js';
+import { showOwn } from './own.js';
+import { packText, unpackText } from '../pack.js';
 
-const lesson = { number: -1, done: 0, hint: false, judged: '', verdict: '' };
+const open = opening => ({ text: opening.text, kind: opening.kind, title: opening.title, k: opening.k, threads: opening.threads,
+  own: [...opening.own], schedule: opening.schedule, position: opening.schedule.length });
 
-export async function openLesson(bench, number, examples) {
-  const chosen = LESSONS[number];
-  if (!chosen) return false;
-  const { example, source, k, threads } = chosen, own = source && await unlessDropped(withoutList(source, k));
-  if (source && !own) return true;
-  const taken = await bench.load({ ...examples[example], title: example, ...own, k, threads, schedule: [], position: 0 });
-  if (taken) Object.assign(lesson, { number, done: 0, hint: false, judged: '', verdict: '' });
+// Opens a lesson from its start, or where a link tells of steps, after these.
+export async function openLesson(bench, number, examples, { number: _, done = 0, did, ...whole } = {}) {
+  const read = LESSONS[number];
+  if (!read) return false;
+  const start = open(openingAt(read, done));
+  showOwn(start.own.length > 0);
+  await bench.load({ ...start, ...whole, lesson: { number, done, did } });
   return true;
 }
 
-// The assembly text of a source, whose last list has lost its locks.
-async function withoutList(source, k) {
-  const { text } = await compileText(source, k);
-  return { text: text.slice(0, text.lastIndexOf('list\n') + 5), kind: 'asm', title: 'own.asm' };
+// Makes a lesson known; answers its number, or what is wrong with it.
+async function learn(text) {
+  const { lesson: read, refusals } = readLesson(text, examplesOf()), wrong = refusals || await untilDone(() => checkLesson(read));
+  return wrong.length ? { wrong } : { number: addLesson({ ...read, packed: await packText(text) }), wrong };
+}
+// A lesson of a file or a link: opened, or refused with the lines that are wrong.
+export async function openLessonText(bench, text) {
+  const { number, wrong } = await learn(text);
+  if (!wrong.length) await openLesson(bench, number);
+  return wrong;
 }
 
-// Asks whether the lists of the program are enough for the source, and draws the answer.
-function judge(bench, { source, k }) {
-  const text = bench.builtText;
-  if (lesson.judged === text) return;
-  Object.assign(lesson, { judged: text, verdict: '' });
-  unlessDropped(checkLists(source, text, k).then(({ text: said, refusal }) => {
-    if (lesson.judged !== text) return;
-    lesson.verdict = said || refusal;
-    drawLesson(bench);
-  }));
+// The state of a lesson as words of a link, and back: null where they name no lesson. A lesson that is none of the page's is in them.
+export const lessonWords = state => (!state ? [] : [
+  isOfPage(state.number) ? 'lesson=' + (state.number + 1) : 'lesson-text=' + LESSONS[state.number].packed, 'done=' + state.done,
+  ...(lesson.did && state.done ? ['did=' + lesson.did] : [])]);
+export async function lessonOf(said) {
+  const packed = said.get('lesson-text'), known = LESSONS.findIndex(read => packed && read.packed === packed);
+  const { number = -1 } = !packed ? { number: Number(said.get('lesson')) - 1 } : known >= 0 ? { number: known }
+    : await learn(await unpackText(packed).catch(() => ''));
+  return LESSONS[number] && (packed || isOfPage(number)) ? { number, done: Number(said.get('done')) || 0, did: said.get('did') } : null;
 }
 
-// What it says, in words.
-function verdictOf(said) {
-  const [, why, section, lock] = /^(Un\w+)\((\d+), (.*)\)$/.exec(said) || [];
-  const told = `not enough, section ${section} ${why === 'Uncovered' ? 'needs' : 'reads by its list'} \x60${lock}\x60`;
-  return said && '`check`: ' + (why ? told : said);
-}
+// The refusals of a lesson: each with its line and the reason.
+const asRow = row => row.trim().slice(0, 120).replace(/\p{Cf}/gu, '\uFFFD');
+export const refusalList = wrong => el('ol', { class: 'refusals' }, wrong.map(({ line, words, row }) => el('li', {},
+  el('b', {}, `Line ${line}: `), withCode(words), '.', row.trim() ? el('pre', {}, asRow(row)) : null)));
 
 export function closeLesson(bench) {
-  lesson.number = -1;
+  bench.keep();
+  endLesson();
   drawLesson(bench);
 }
 
-export const lessonNumber = () => lesson.number;
+function hintOf(bench, step) {
+  if (!step.hint) return null;
+  return [el('button', { class: 'link', 'data-keep': 'hint', 'aria-expanded': String(lesson.hint),
+    onclick: () => { lesson.hint = !lesson.hint; drawLesson(bench); } }, 'a hint'), lesson.hint && el('em', {}, ' ', withCode(step.hint))];
+}
 
-// A step that was done stays done; only the present one is looked at.
-function advance(bench, steps) {
-  if (!bench.run || bench.refusal) return;
-  const isDone = ({ check, done }) => (check ? lesson.verdict.startsWith('checked') : done(bench));
-  while (lesson.done < steps.length && isDone(steps[lesson.done])) Object.assign(lesson, { done: lesson.done + 1, hint: false });
+// A choice that is wrong may be followed by another one; how many were wrong is told.
+function choose(bench, step, choice) {
+  lesson.picked[lesson.done] = choice;
+  if (choice !== step.right) lesson.missed++;
+  bench.changed('lesson');
+}
+const choicesOf = (bench, step) => step.choices.length ? el('span', { class: 'choices', role: 'group', 'aria-label': 'Choices' },
+  step.choices.map((choice, i) => el('button', { 'data-keep': 'choice-' + i, 'aria-pressed': String(lesson.picked[lesson.done] === choice),
+    onclick: () => choose(bench, step, choice) }, withCode(choice))),
+  lesson.missed ? el('em', {}, lesson.picked[lesson.done] === step.right ? ' Right, but there is more to do.'
+    : ` No, it is another one (${lesson.missed} wrong so far).`) : null) : null;
+
+// Where another program is to be open than the one that is there.
+function toOpen(bench, step) {
+  const opening = openingAt(chosen(), lesson.done);
+  if (isOpened(bench, opening)) return null;
+  return el('button', { class: 'link', 'data-keep': 'lesson-open',
+    onclick: () => { showOwn(opening.own.length > 0); bench.load(open(opening)); } }, 'open ' + opening.title);
 }
 
 function stepRow(bench, step, i) {
-  const state = i < lesson.done ? 'done' : i === lesson.done ? 'present' : 'later';
-  const hint = state === 'present' && step.hint
-    ? [el('button', { class: 'link', 'aria-expanded': String(lesson.hint),
-      onclick: () => { lesson.hint = !lesson.hint; drawLesson(bench); } }, 'a hint'), lesson.hint && el('em', {}, ' ', withCode(step.hint))]
-    : null;
-  return el('li', { class: state, 'aria-current': state === 'present' ? 'step' : null },
-    el('span', { class: 'tick' }, state === 'done' ? '✓ ' : '▢ '), withCode(step.text), ' ', hint);
+  const state = i < lesson.done ? 'done' : i === lesson.done ? 'present' : 'later', present = state === 'present';
+  return el('li', { class: state, 'aria-current': present ? 'step' : null },
+    el('span', { class: 'tick' }, state === 'done' ? '✓ ' : '▢ '), withCode(step.text), ' ',
+    present ? [toOpen(bench, step), ' ', hintOf(bench, step), choicesOf(bench, step)] : null,
+    state === 'done' && step.then ? el('span', { class: 'then' }, ' ', withCode(step.then)) : null);
 }
 
 export function drawLesson(bench) {
-  const box = byId('s-lesson'), chosen = LESSONS[lesson.number];
-  box.hidden = !chosen;
-  if (!chosen) return;
-  advance(bench, chosen.steps);
-  const over = lesson.done === chosen.steps.length;
-  if (!over && chosen.steps[lesson.done].check && bench.run && !bench.refusal) judge(bench, chosen);
+  const box = byId('s-lesson'), read = chosen();
+  box.hidden = !read;
+  byId('text').readOnly = isForbidden('edit');
+  if (!read) return;
+  advance(bench, () => bench.changed('lesson'));
   const source = byId('lesson-source');
-  source.hidden = !chosen.source;
-  setText(source.lastChild, chosen.source || '');
-  byId('lesson-title').textContent = `Lesson ${lesson.number + 1}: ${chosen.title}`;
-  byId('lesson-about').textContent = chosen.about;
-  renew(byId('lesson-steps'), chosen.steps.map((step, i) => stepRow(bench, step, i)));
-  renew(byId('lesson-end'), withCode(over ? 'Done. ' + chosen.answer : verdictOf(lesson.verdict)));
+  source.hidden = !read.source;
+  setText(source.lastChild, read.source);
+  setText(byId('lesson-title'), isOfPage(lesson.number) ? `Lesson ${lesson.number + 1}: ${read.title}` : read.title);
+  renew(byId('lesson-about'), withCode(read.about));
+  renew(byId('lesson-steps'), read.steps.map((step, i) => stepRow(bench, step, i)));
+  renew(byId('lesson-end'), withCode(isOver() ? 'Done. ' + read.answer : ''));
+  whenDrawn(() => keepStepInSight(box));
 }
 
-export const lessonList = open => el('ol', { class: 'lessons' },
-  LESSONS.map(({ title, about }, i) => el('li', {}, el('button', { class: 'link', onclick: () => open(i) }, title), ' ', about)));
+// Where there is no room for the whole lesson, as in a lecture, its present step is in sight.
+const seen = { step: null, lesson: -1 };
+function keepStepInSight(box) {
+  const step = box.querySelector('li.present'), again = seen.step === lesson.done && seen.lesson === lesson.number;
+  if (!step || again || box.scrollHeight <= box.clientHeight + 4) return null;
+  Object.assign(seen, { step: lesson.done, lesson: lesson.number });
+  const top = step.offsetTop - box.offsetTop - 30;
+  return () => { box.scrollTop = top; };
+}
+
+export const lessonList = (openIt, linkTo) => el('ol', { class: 'lessons' },
+  LESSONS.map((read, i) => el('li', {}, el('button', { class: 'link', onclick: () => openIt(i) }, read.title), ' ', withCode(read.about),
+    isOfPage(i) ? null : [' ', el('button', { class: 'link', onclick: () => linkTo(read) }, 'copy a link to it')])));

@@ -1,7 +1,8 @@
 // The lock tree as a table: nodes down, threads across; held modes solid, the
 // request of a blocked thread dashed, a clash crossed with the holder framed.
 
-import { byId, el, chip, renew, threadColour } from '../dom.js';
+import { byId, el, chip, renew, threadColour, whenDrawn } from '../dom.js';
+import { placeIn } from './sections.js';
 import { MEANING } from '../modes.js';
 import { waitAt } from '../stretches.js';
 
@@ -19,6 +20,8 @@ export function drawLocks(bench) {
   const heading = el('tr', {}, el('th', { scope: 'col' }, 'node'),
     threads.map(t => el('th', { scope: 'col' }, chip(t, waits.has(t) ? 'blk' : ''))));
   renew(byId('locks'), el('thead', {}, heading), el('tbody', {}, body));
+  const clash = byId('locks').querySelector('.wish.no'), box = byId('locks').parentElement;
+  if (clash) whenDrawn(() => placeIn(box, clash));
 }
 
 // Threads that wait at the position, with what they ask for now.

@@ -1,9 +1,10 @@
 // Each thread: what it is at, why it waits, its registers by variable name.
 
-import { byId, el, chip, threadColour, count, renew } from '../dom.js';
+import { byId, el, chip, threadColour, count, renew, whenDrawn } from '../dom.js';
 import { functionAt } from '../program.js';
 import { countBefore, waitAt } from '../stretches.js';
 import { showWriter, writerOfRegister } from '../writers.js';
+import { placeIn } from './sections.js';
 
 export function drawThreads(bench, change) {
   const { threads } = bench.run.viewWithFrames(bench.position);
@@ -16,6 +17,9 @@ export function drawThreads(bench, change) {
   if (rest.length) boxes.push(el('p', { key: 'rest', class: 'legend' }, 'others (hatched: blocked, dashed: ended): ',
     rest.map(t => chip(t, lookOf(bench, t)))));
   renew(byId('threads'), boxes);
+  // the thread of the last event comes into sight, from its top frame on
+  const acted = byId('threads').querySelector('.acted > .line');
+  if (acted) whenDrawn(() => placeIn(byId('threads'), acted));
 }
 
 const lookOf = (bench, t) => (bench.ended(t) ? 'end' : waitAt(bench.stretches, t, bench.position) ? 'blk' : '');

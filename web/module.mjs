@@ -1,0 +1,23 @@
+// The toolchain in Node, with the module that is there: asl.wasm beside this file, or in the folder out/ there; where there is none, the one
+// that docs/workbench.html carries. The variable ASL_WASM names another one.
+//   const asl = await openAsl();                            as loadAsl of asl.mjs; with asl.lists(source, { k }), which lists.mjs has
+import { existsSync, readFileSync } from 'node:fs';
+import { gunzipSync } from 'node:zlib';
+import { loadAsl } from './asl.mjs';
+import { lists } from './lists.mjs';
+
+const near = name => new URL(name, import.meta.url);
+
+// (src/ has modules of the page, which Node takes for such only by their text)
+async function moduleOfPage() {
+  const script = encodeURIComponent(readFileSync(near('src/base85.js'), 'utf8'));
+  const { fromBase85 } = await import('data:text/javascript,' + script);
+  const [, letters] = /id="wasm">\s*([^<]*?)\s*</.exec(readFileSync(near('../docs/workbench.html'), 'latin1'));
+  return gunzipSync(fromBase85(letters));
+}
+
+export async function openAsl() {
+  const module = process.env.ASL_WASM || ['asl.wasm', 'out/asl.wasm'].map(near).find(path => existsSync(path));
+  const asl = await loadAsl(module ? readFileSync(module) : await moduleOfPage());
+  return Object.assign(asl, { lists: (source, options) => lists(asl, source, options) });
+}

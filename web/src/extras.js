@@ -1,0 +1,91 @@
+// What the panels for lists by hand, lessons, going further and prediction bring to the page: their keys, buttons and drawing.
+
+import { isForbidden, keepRecords } from './lessons.js';
+import { drawOwn, enterOwn, toggleOwn } from './panels/own.js';
+import { askLine, breakHere, drawBreaks, drawGo, go, listenToGutter } from './panels/go.js';
+import { drawPredict, listenToPredict, togglePredict } from './panels/predict.js';
+import { setPredict, predict } from './predict.js';
+import { drawAnswers, closeAnswers, lessonLink, openAnswer, openHandIn } from './panels/answer.js';
+import { lessonList, openLesson, openLessonText, refusalList } from './panels/lesson.js';
+import { isLesson } from './lessontext.js';
+import { isAnswer, answerText, readAnswer } from './handin.js';
+import { copyText } from './files.js';
+import { packText, unpackText } from './pack.js';
+import { readers } from './opening.js';
+import { byId, el } from './dom.js';
+import { note, openDialog } from './page.js';
+
+// An action, unless the present step of a lesson is to be done without it.
+export const unlessForbidden = (word, act) => (...given) => (isForbidden(word)
+  ? note('This step of the lesson is to be done without it.') : act(...given));
+
+export const extraKeys = bench => ({
+  g: () => go(bench, 'atomic'), G: () => go(bench, 'end'), Y: () => go(bench, 'event'), I: () => askLine(bench),
+  p: () => breakHere(bench), '.': () => go(bench, 'break'), ',': () => go(bench, 'back'),
+  v: () => enterOwn(bench), P: () => togglePredict(bench), H: openHandIn,
+});
+export const extraButtons = bench => ({ 'own-open': () => toggleOwn(bench), predict: () => togglePredict(bench),
+  'lesson-hand-in': openHandIn, 'answer-close': () => closeAnswers(bench) });
+
+// ---- lessons and answers from files and links
+
+// What is wrong with it, in a dialog, line by line.
+function told(name, wrong) {
+  if (wrong.length) openDialog(`${name} is refused`, el('p', {}, 'Nothing was opened. What is wrong:'), refusalList(wrong.slice(0, 100)));
+}
+// Says whether it was opened.
+async function openText(bench, text, examples, name, isOfAnswer) {
+  const wrong = await (isOfAnswer ? openAnswer(bench, text, examples, name) : openLessonText(bench, text));
+  told(name, wrong);
+  return !wrong.length;
+}
+// What is to be done for a file that is a lesson or an answer; nothing where it is neither.
+const reader = (bench, examples) => (name, text) => {
+  const isOfAnswer = isAnswer(text) || /\.answer$/.test(name);
+  if (!isOfAnswer && !isLesson(text) && !/\.lesson$/.test(name)) return null;
+  return () => openText(bench, text, examples, name, isOfAnswer);
+};
+// How what was done is kept in a link, and read from it again: as an answer.
+const keeper = examples => ({
+  pack: (number, records) => packText(answerText(number, records, '')),
+  unpack: async letters => readAnswer(await unpackText(letters), examples).answer?.records || [],
+});
+const GIVEN = /^#(lesson-text|answer)=([\w-]+)$/;
+// The same of an address.
+export async function openGivenLink(bench, fragment, examples) {
+  const [, word, letters] = GIVEN.exec(fragment) || [];
+  if (!word) return false;
+  const isOfAnswer = word === 'answer', text = await unpackText(letters).catch(() => null);
+  if (text !== null) return openText(bench, text, examples, isOfAnswer ? 'The answer' : 'The lesson', isOfAnswer);
+  note('The link is damaged: it cannot be read.');
+  return false;
+}
+// What a link turns on besides: `predict`, or `predict=atomic`.
+export function openTurns(bench, fragment) {
+  const said = /[#&]predict(?:=(\w+))?(?:&|$)/.exec(fragment);
+  if (said) setPredict(bench, true, said[1] !== 'atomic');
+}
+
+export function openLessonsDialog(bench, examples) {
+  openDialog('Lessons', lessonList(number => { byId('dialog').close(); openLesson(bench, number, examples); },
+    async read => note((await copyText(await lessonLink(read))) ? 'The link is copied.' : 'Could not copy.')),
+  el('p', { class: 'soft' }, 'A lesson of your own is a text file: drop it anywhere, or open it by “Open”. '
+    + 'So, too, answers that were handed in.'));
+}
+
+export function listenToExtras(bench, examples) {
+  readers.push(reader(bench, examples));
+  keepRecords(keeper(examples));
+  listenToGutter(bench);
+  listenToPredict(bench);
+  const dialog = byId('dialog'); // (the keys are the workbench's again once it is closed)
+  dialog.addEventListener('close', () => { if (!dialog.open && dialog.contains(document.activeElement)) document.activeElement.blur(); });
+  byId('predict-all').addEventListener('change', event => setPredict(bench, predict.on, !event.target.checked));
+}
+export function drawExtras(bench) {
+  drawOwn(bench);
+  drawBreaks();
+  drawGo(bench);
+  drawPredict(bench);
+  drawAnswers(bench);
+}

@@ -1,0 +1,26 @@
+// What could not be opened and why, in plain words, in its place until it is closed.
+
+import { byId, el, renew, withCode } from '../dom.js';
+
+const told = [];
+
+function draw() {
+  const box = byId('trouble');
+  box.hidden = !told.length;
+  renew(box, told.map(({ name, words, refused }) => el('p', {}, el('b', {}, `${refused ? '✕' : '!'} ${name}: `), withCode(words))),
+    el('button', { id: 'trouble-close', 'data-keep': 'trouble-close', title: 'Close this (Esc)', onclick: closeTrouble }, 'Close'));
+}
+
+// `refused` says that nothing came of it.
+export function tellTrouble(name, words, refused = true) {
+  const clean = name.replace(/\p{Cf}/gu, '');
+  if (!told.some(other => other.name === clean && other.words === words)) told.push({ name: clean, words, refused });
+  draw();
+}
+// Answers whether there was something to close.
+export function closeTrouble() {
+  const was = told.length > 0;
+  told.length = 0;
+  draw();
+  return was;
+}

@@ -1,0 +1,19 @@
+// How high the panels of the first screen may be in a lecture or an embedding: what header and timeline leave of the window, and how much
+// the lock tree wants.
+
+import { byId } from './dom.js';
+
+// `told` hears it when the editor has got another height. Answers what is to be called when the page looks otherwise.
+export function watchRoom(told) {
+  const { style } = document.body, header = byId('say').closest('header');
+  const measured = { '--head': header, '--time': byId('s-time'), '--tree': byId('locks') };
+  // (what all that is in the page inherits costs a look at all of it, so it is set only where it is needed)
+  const measure = () => {
+    if (!document.body.matches('.lecture,.view')) return;
+    for (const [name, { offsetHeight }] of Object.entries(measured)) style.setProperty(name, offsetHeight + 'px');
+  };
+  const watcher = new ResizeObserver(measure);
+  for (const box of Object.values(measured)) watcher.observe(box);
+  new ResizeObserver(told).observe(byId('editor'));
+  return measure;
+}

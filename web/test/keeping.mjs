@@ -1,0 +1,139 @@
+// Nothing that a person makes is lost: undo brings back texts, runs, threads and a lesson's progress, and a reload keeps them.
+import { readFileSync } from 'node:fs';
+import { at, browser, calm, check, key, open, part, run, settled, textOf } from './kit.mjs';
+import { EXAMPLES } from './paths.mjs';
+
+export const type = async text => {
+  await run(`(() => { const t = document.getElementById('text'); t.focus(); t.value = ${JSON.stringify(text)};
+    t.dispatchEvent(new Event('input')); t.blur(); })()`);
+  await browser.sleep(150); await calm();
+};
+export const choose = async name => {
+  await run(`(() => { const e = document.getElementById('example'); e.value = '${name}'; e.dispatchEvent(new Event('change')); e.blur(); })()`);
+  await calm();
+};
+// All that a person has made here.
+const MADE = `JSON.stringify((({ text, kind, title, k, threads, schedule, position, lesson }) =>
+  ({ text, kind, title, k, threads, schedule, position, lesson: lesson && { number: lesson.number, done: lesson.done } }))(workbench.bench.moment()))`;
+const COUNTER = readFileSync(EXAMPLES + 'counter.asl', 'utf8');
+
+await part('undo brings back a text, a run, threads and a lesson, and redo what came after', async () => {
+  await open('#example=counter.asl&k=3&threads=2&steps=0011&at=3');
+  const moments = [await run(MADE)];
+  const then = async work => { await work(); await calm(); moments.push(await run(MADE)); };
+  await then(() => type(COUNTER.replace('x + one', 'one + x')));
+  await choose('bank.asl');
+  await then(async () => { for (const name of ['n', 't', 'k']) await key(name); });
+  await then(() => run("location.hash = '#lesson=1'"));
+  for (const name of ['0', '0', '1', '1']) await key(name);
+  moments.push(await run(MADE));
+  check(JSON.parse(moments.at(-1)).lesson.done === 2, 'the lesson has begun: ' + moments.at(-1));
+  await then(() => choose('lost.asl'));
+  await then(() => run("document.getElementById('lesson-close').click()"));
+  const seen = new Set();
+  for (let i = 0; i < 12 && await run('workbench.bench.past.canGoBack'); i++) { await key('u'); seen.add(await run(MADE)); }
+  const missed = moments.slice(0, -1).filter(moment => !seen.has(moment));
+  check(missed.length === 1 && JSON.parse(missed[0]).lesson?.done === 0, 'undo brings back all but the start of the lesson: ' + missed);
+  check(await run(MADE) === moments[0], 'the first moment is the last to which undo goes');
+  for (let i = 0; i < 12 && await run('workbench.bench.past.canGoForward'); i++) await key('U');
+  check(await run(MADE) === moments.at(-1), 'redo brings back the last: ' + await run(MADE));
+});
+
+await part('fewer threads drop no step for good, and a text that is typed is one undo', async () => {
+  await open('#example=counter.asl&k=3&threads=3&steps=001122&at=6');
+  await key('T'); check(String(await at()) === '4,4', 'fewer threads');
+  await key('u'); check(String(await at()) === '6,6' && await run('workbench.bench.threads') === 3, 'the steps are there again');
+  await key('e'); await browser.typed('abc'); await browser.sleep(150); await browser.typed('de'); await key('Escape');
+  await browser.sleep(150); await calm();
+  check(await run("workbench.bench.refusal !== null && /abcde/.test(workbench.bench.text)"), 'a text is typed that does not compile');
+  await key('u');
+  check(await run('workbench.bench.text') === COUNTER && await run('workbench.bench.refusal === null'), 'one undo brings the text back');
+  check(String(await at()) === '6,6', 'with its run');
+  await key('U'); check(/abcde/.test(await run('workbench.bench.text')), 'redo brings what was typed');
+});
+
+// Opens the address that the page has written, as a reload does; the store of the tab is kept.
+async function reload() {
+  for (let i = 0, before = ''; i < 30; i++) {
+    const now = await run('location.hash');
+    if (now === before && i > 3) break;
+    before = now;
+    await browser.sleep(120);
+  }
+  await open(await run('location.hash'));
+}
+
+await part('a reload keeps text, run, threads, name, notes and lesson', async () => {
+  await open('#lesson=3');
+  for (const name of ['0', '1', '0', 't', 'ArrowLeft']) await key(name);
+  await type((await run('workbench.bench.text')).replace('hundred = 100', 'hundred = 250'));
+  await run("workbench.bench.setNotes({ 7: 'opens once' })"); await calm();
+  const before = await run(MADE);
+  check(/"lesson":\{"number":2/.test(before) && /250/.test(before), 'made: ' + before.slice(-120));
+  await reload();
+  check(await run(MADE) === before, 'after a reload: ' + (await run(MADE)).slice(-120));
+  check(await run('JSON.stringify(workbench.bench.notes)') === '{"7":"opens once"}' && /opens once/.test(await textOf('#paint')), 'the note is there');
+  for (let i = 0; i < 30 && !await textOf('#kept'); i++) await browser.sleep(100);
+  check(await textOf('#lesson-title') !== '' && /kept in the address/.test(await textOf('#kept')), 'a line says where it is kept: ' + await textOf('#kept'));
+});
+
+await part('what is too long for the address is kept by the browser, and a line says so', async () => {
+  await open('#example=counter.asl&k=3&threads=2');
+  let seed = 1;
+  const names = Array.from({ length: 6000 }, () => 'g' + (seed = (seed * 48271) % 2147483647).toString(36)), text = [...new Set(names)].slice(0, 900).map(name => `global ${name};\n`).join('')
+    + COUNTER + names.map(name => `fn ${name}x(a) { return a; }\n`).slice(0, 200).join('') + ' '.repeat(10) + names.join(' ');
+  await type(text);
+  await reload();
+  check(/^#kept=\w+$/.test(await run('location.hash')), 'the address names it: ' + (await run('location.hash')).slice(0, 40));
+  check(await run('workbench.bench.text') === text, 'the text is there');
+  for (let i = 0; i < 30 && !await textOf('#kept'); i++) await browser.sleep(100);
+  check(/by the browser/.test(await textOf('#kept')), 'a line says so: ' + await textOf('#kept'));
+});
+
+await part('New, a name, and notes by keys; files get the name', async () => {
+  await open('#example=counter.asl&k=3&threads=2&steps=0011&at=4');
+  await key('N'); await settled();
+  check(await run('[workbench.bench.title, workbench.bench.kind, workbench.bench.refusal].join()') === 'untitled.asl,asl,' && await run("document.activeElement.id") === 'text', 'a new program');
+  await key('Escape'); await key('u');
+  check(String(await at()) === '4,4' && await run("workbench.bench.title") === 'counter.asl', 'undo brings the old one back');
+  await run("document.getElementById('rename').click()");
+  await run("document.getElementById('asked').value = 'my / lab'"); await key('Enter'); await calm();
+  check(await run("workbench.bench.title") === 'my lab.asl', 'the name: ' + await run('workbench.bench.title'));
+  await key('s'); await settled();
+  const files = await run("[...document.querySelectorAll('.files button')].map(e => e.textContent).join()");
+  check(files === ['workbench', 'run', 'svg', 'x', 'x', 'img', 'asl'].map((end, i) => 'Save my lab' + (end === 'x' ? ['-locks.svg', '-heap.svg'][i - 3] : '.' + end)).join(), 'files: ' + files);
+  await run("document.getElementById('dialog').close()");
+  await key('z');
+  check(await run("document.getElementById('note-number').value") === '5', 'a note is meant for the line of the last event');
+  await browser.typed('both come here'); await key('Enter'); await calm();
+  check(/✎ both come here/.test(await run("document.querySelectorAll('#paint .row')[4].textContent")), 'it stands behind its line');
+  check(/line 5 both come here/.test(await textOf('#notes')), 'and in the list');
+  await type('// \n' + await run('workbench.bench.text')); await type('global more;\n' + COUNTER);
+  check(await run('JSON.stringify(workbench.bench.notes)') === '{"5":"both come here"}', 'it stays with its line: ' + await run('JSON.stringify(workbench.bench.notes)'));
+  await reload();
+  check(/line 6 both come here/.test(await textOf('#notes')), 'and goes with the link');
+});
+
+await part('share in a lesson gives what is seen, and 100,000 steps make a short link', async () => {
+  await open('#lesson=1');
+  for (const name of ['0', '0', '1', '1', 'ArrowLeft']) await key(name);
+  await key('s'); await settled();
+  const link = await textOf('#dialog .share pre'), before = await run(MADE);
+  await run("document.getElementById('dialog').close()");
+  check(/#lesson=1&done=2(?:&did=[\w-]+)?&example=counter\.asl&k=3&threads=2&steps=0011&at=3$/.test(link), 'the link: ' + link);
+  await open('#' + link.split('#')[1]);
+  check(await run(MADE) === before && await run("document.querySelectorAll('#s-lesson li.done').length") === 2, 'opens what was seen');
+  await open('#lesson=3&steps=0101&at=2');
+  check(await run("workbench.bench.title") === 'bank.asl' && String(await at()) === '2,4', 'a lesson with steps: ' + await at());
+  const loop = 'global g; fn main(t) { one = 1; while one { x = one; } return t; }';
+  await open();
+  const steps = 'Array.from({ length: 100000 }, (_, i) => (i * 7919 >> 4) % 3)';
+  await run(`workbench.bench.load({ text: ${JSON.stringify(loop)}, kind: 'asl', title: 'loop.asl', threads: 3, schedule: ${steps}, position: 90000 })`); await calm();
+  const made = await run('workbench.bench.run.schedule.join("").length');
+  await key('s'); await settled();
+  const long = await textOf('#dialog .share pre');
+  check(made === 100000 && long.length < 30000, `${made} steps, ${long.length} letters`);
+  await open('#' + long.split('#')[1]);
+  check(String(await at()) === '90000,100000' && await run(`workbench.bench.run.schedule.join() === (${steps}).join()`), 'opens with all of them: ' + await at());
+  console.log('       a link of', long.length, 'letters for 100,000 steps');
+});

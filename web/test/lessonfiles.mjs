@@ -1,0 +1,157 @@
+// Lessons as texts: each kind of fault is refused with its line, hostile ones stay texts, and what is handed in is replayed and judged.
+import { readFileSync } from 'node:fs';
+import { deflateRawSync } from 'node:zlib';
+import { browser, calm, check, key, open, part, run, settled, textOf } from './kit.mjs';
+
+const pack = text => deflateRawSync(text).toString('base64url');
+const GOOD = `# of a test
+lesson Two steps
+about a test
+program own.asl
+  global g;
+  fn main(t) {
+    p = &g;
+    atomic { *p = t; }
+    out t;
+    return t;
+  }
+end program
+k 1
+threads 2
+step first
+hint by key 0
+until thread 0 is inside main
+step second
+choice one
+choice two
+right two
+until all threads have ended
+answer it is done
+`;
+const edit = (from, to) => GOOD.replace(from, to);
+// A text, the line that is wrong, and what is said of it.
+const FAULTS = [
+  ['hello', 1, /first line is "lesson"/], [edit('lesson Two steps\n', ''), 2, /first line is "lesson"/],
+  [edit('lesson Two steps', 'lesson'), 2, /something is missing after "lesson"/], [edit('about a test', 'abut a test'), 3, /"abut" is no word/],
+  [edit('about a test', 'about a test\nabout another'), 4, /stands here twice/], [edit('end program', 'end programme'), 4, /"end program" is missing/],
+  [edit('own.asl', 'own.txt'), 4, /ends in \.asl or \.asm/], [edit('*p = t;', '*p = u;'), 8, /the program is refused: .*u/],
+  [edit('end program', 'end program\nexample counter.asl'), 13, /a program stands here already/],
+  [edit(/program own[^]*end program/, 'example nope.asl'), 4, /no example "nope.asl"/], [edit(/program own[^]*end program\n/, ''), 15, /there is no program/],
+  [edit('k 1', 'k 9'), 13, /k is a number from 0 to 8/], [edit('threads 2', 'threads 0'), 14, /threads is a number from 1 to 128/],
+  [edit('threads 2', 'threads 2\nsteps 0 1 2'), 15, /each step is the number of a thread/], [edit('threads 2', 'list 3\nend list'), 14, /no section 3/],
+  [edit('threads 2', 'list 0\nexpr r9 read\nend list'), 14, /List of section 0/], [edit('threads 2', 'list x\nend list'), 14, /number of a section/],
+  [edit('threads 2', 'forbid sleep'), 14, /"sleep" cannot be forbidden/], [edit('threads 2', 'hint too early'), 14, /"hint" stands after a "step"/],
+  [edit('answer it is done', 'about too late'), 23, /stands before the first "step"/], [edit('until thread 0 is inside main\n', ''), 15, /no "until", and no "choice"/],
+  [edit('thread 0 is inside main', 'thread 0 is asleep'), 17, /"is asleep" is not what/], [edit('thread 0 is inside main', 'thread zero is inside'), 17, /a condition begins with/],
+  [edit('thread 0 is inside main', 'the moon is full'), 17, /"the moon is full" is not a condition/], [edit('thread 0 is inside main', 'thread 7 is inside'), 17, /there is no thread 7/],
+  [edit('is inside main', 'is inside mine'), 17, /has no function "mine"/], [edit('choice two\n', ''), 18, /one "choice" only/],
+  [edit('right two\n', ''), 18, /no "right" choice/], [edit('right two', 'right three'), 21, /none of the choices/], [edit('choice two', 'choice one'), 20, /stands here twice/],
+  [edit(/step first[^]*/, ''), 15, /there is no "step"/], [edit('until thread', 'keys 0 Hyper\nuntil thread'), 17, /"Hyper" is no key/],
+  [edit(/program own[^]*end program/, 'example counter.asm').replace('is inside main', 'is inside').replace('all threads have ended', 'lists are enough'), 14, /judged by its source/],
+  [edit('until all', 'program own.asl\nfn main(t) { return t; }\nend program\nuntil all'), 22, /of this name is open already/],
+  [edit('k 1', 'source\n fn main(t) { return u; }\nend source'), 14, /the program is refused/],
+];
+const openText = async text => { await open('#lesson-text=' + pack(text)); await settled(); };
+const refusals = () => run("[...document.querySelectorAll('.refusals li')].map(li => li.textContent)");
+
+await part('a lesson with each kind of fault is refused, with the line and the reason', async () => {
+  await openText(GOOD);
+  check(await textOf('#lesson-title') === 'Two steps' && await run("!document.getElementById('dialog').open"), 'the good one opens: ' + await textOf('#dialog'));
+  for (const [text, line, reason] of FAULTS) {
+    await run(`workbench.loadFile('a.lesson', new TextEncoder().encode(${JSON.stringify(text)}))`); await calm();
+    const told = await refusals();
+    check(told.some(words => words.startsWith(`Line ${line}: `) && reason.test(words)), `line ${line}, ${reason}: ${told.join(' / ')}`);
+    check(new Set(told).size === told.length, 'nothing is told twice: ' + told.join(' / '));
+    check(await textOf('#lesson-title') === 'Two steps' && await run('workbench.bench.title') === 'own.asl', 'what was open stays');
+    await run("document.getElementById('dialog').close()");
+  }
+  await openText(edit('about a test', 'about a `test`'));
+  check(await textOf('#lesson-about code') === 'test', 'code in what it is about: ' + await textOf('#lesson-about'));
+});
+
+const EVIL = '<img src=x onerror="window.bad=1"><script>window.bad=1</script>\u202Egnp';
+await part('a hostile lesson stays text', async () => {
+  const text = GOOD.replaceAll('Two steps', EVIL).replace('a test\nprogram', EVIL + '\nprogram').replace('step first', 'step ' + EVIL).replace('by key 0', EVIL)
+    .replace('choice one', 'choice ' + EVIL).replace('it is done', EVIL);
+  await openText(text);
+  await run("document.querySelector('#lesson-steps .link').click()"); await calm();
+  check(/onerror/.test(await textOf('#lesson-title')) && /onerror/.test(await textOf('#lesson-steps em')), 'it is open: ' + await textOf('#s-lesson'));
+  for (const name of ['j', 'Escape', 'H', 'Escape']) { await key(name); await settled(); }
+  await openText('lesson x\n' + EVIL + '\nuntil ' + EVIL + '\n'.repeat(3) + 'k ' + EVIL);
+  check(/onerror/.test((await refusals()).join()), 'and refused: ' + await refusals());
+  await openText('lesson ' + 'x'.repeat(100000) + '\nprogram ' + '../../'.repeat(9) + 'a.asl\n' + 'a'.repeat(100000) + '\nend program\nforbid __proto__\nconstructor y\nlist 0\nend list');
+  check(/"constructor" is no word/.test((await refusals()).join()) && /"__proto__" cannot/.test((await refusals()).join()), 'names of objects are words like others: ' + (await refusals()).join().slice(0, 200));
+  for (const letters of ['', 'AAAA', '!!!', pack('lesson').slice(2)]) { await open('#lesson-text=' + letters); await settled(); }
+  check(await run('window.bad === undefined && document.images.length === 0 && document.scripts.length') === 4, 'no markup comes of it');
+  check(await run('workbench.bench.title') === 'counter.asl', 'a damaged link opens the page as it is');
+});
+
+const handedIn = async by => {
+  await key('H');
+  await run(`(() => { const e = document.getElementById('handed-by'); e.value = ${JSON.stringify(by)}; e.dispatchEvent(new Event('input')); })()`);
+  await run("document.getElementById('hand-link').click()"); await settled();
+  const link = await textOf('#handed');
+  await run("document.getElementById('dialog').close()"); await settled();
+  return link.slice(link.indexOf('#'));
+};
+const summaries = () => run("[...document.querySelectorAll('#answers li')].map(li => li.textContent)");
+const give = async text => { await run(`workbench.loadFile('a.answer', new TextEncoder().encode(${JSON.stringify(text)}))`); await settled(); await calm(); };
+
+await part('what was done is handed in by a link, replayed and judged', async () => {
+  await openText(GOOD);
+  for (const name of ['0', '0']) await key(name);
+  const half = await handedIn('Ada');
+  await browser.sleep(500); await open(await run('location.hash')); await settled();
+  check(await textOf('#lesson-title') === 'Two steps' && await run("document.querySelectorAll('#s-lesson li.done').length") === 1, 'a reload keeps the lesson: ' + await textOf('#s-lesson'));
+  for (const name of ['r']) await key(name);
+  await run("document.querySelectorAll('.choices button')[1].click()"); await settled();
+  check(/^Done\. it is done/.test(await textOf('#lesson-end')), 'it is done: ' + await textOf('#lesson-end'));
+  const whole = await handedIn(EVIL);
+  await open(half); await settled();
+  check(/Ada Two steps: ✕ 1 of 2 steps by the lesson that came with it/.test(String(await summaries())) && /came with the answer/.test(await textOf('#answer-origin')), String(await summaries()));
+  check(await run('workbench.bench.run.length') === 2, 'the run is opened, too');
+  await open(whole); await settled();
+  check(/✓ all 2 steps/.test(String(await summaries())) && /Chosen: two/.test(await textOf('#answer-steps')) && await run('window.bad === undefined && document.images.length === 0'), String(await summaries()));
+  await run("document.querySelectorAll('#answer-steps .link')[0].click()"); await settled();
+  check(await run('workbench.bench.position') === 2, 'a step is looked at');
+});
+
+await part('an answer is judged by what it holds, and a wrong one is refused', async () => {
+  await open();
+  const head = 'answer A lock, and who waits\nby Bob\nlesson 1\n';
+  await give(head + 'step 1\nsteps 0*2\nat 2\nstep 2\nsteps 0*2 1\nat 3\n');
+  check(/✕ 1 of 5 steps$/.test(String(await summaries())), 'a claim that is not so: ' + await summaries());
+  check(/does not do it/.test(await textOf('#answer-steps')) && /not done/.test(await textOf('#answer-steps')), await textOf('#answer-steps'));
+  await give('answer A list of your own\nlesson 6\nstep 4\nk 0\nlist 1\nexpr r1 write\nexpr r2 write\nend list\nat 0\n');
+  await give('answer A list of your own\nlesson 6\nstep 4\nk 0\nlist 1\nexpr r1 write\nend list\nat 0\n');
+  const told = await summaries();
+  check(told.length === 3 && /✕ 1 of 4/.test(told[1]) && /✕ 0 of 4/.test(told[2]), 'lists are judged by check: ' + told);
+  for (const [text, line, reason] of [['by Bob', 1, /first line is "answer"/], [head.replace('lesson 1', 'lesson 99'), 3, /no lesson 99/], [head.replace('waits', 'sleeps'), 3, /another title/],
+    [head + 'step 9', 4, /has 5 steps/], [head + 'at 3', 4, /stands after a "step"/], [head + 'step 1\nsteps 5*2', 5, /no steps of its threads/], [head + 'step 1\nsteps 0*9999999999', 5, /no steps/],
+    [head + 'step 1\nsleep', 5, /"sleep" is no word of an answer/], [head + 'step 1\nprogram a.asl\nx', 5, /"end program" is missing/], ['answer x\nlesson text\nlesson\nend lesson', 2, /the lesson in it is refused/]]) {
+    await give(text);
+    const said = await refusals();
+    check(said.some(words => words.startsWith(`Line ${line}: `) && reason.test(words)), `line ${line}, ${reason}: ${said.join(' / ')}`);
+    await run("document.getElementById('dialog').close()");
+  }
+  check((await summaries()).length === 3, 'and nothing is lost by it');
+});
+
+const page = name => readFileSync(new URL('../../docs/' + name, import.meta.url), 'utf8');
+await part('the lesson and the links of the pages open', async () => {
+  const [, shortest] = /```\n(lesson [^`]*)```/.exec(page('LESSONS.md'));
+  await openText(shortest);
+  for (const name of '0011') await key(name);
+  check(/^Done\. Keys 0 0 1 1/.test(await textOf('#lesson-end')), 'the shortest lesson is done by its answer: ' + await textOf('#s-lesson'));
+  const links = [...page('TEACHING.md').matchAll(/\]\(workbench\.html(#[^)]*)\)/g)].map(([, link]) => link);
+  check(links.length >= 14, 'links: ' + links.length);
+  const said = { 'lost.asl': /Start/, 'bank.asl': /blocked.*class 1/, 'walk.asl': /blocked.*head/, 'unprotected.asm': /fault Unprotected 0\.0 read/ };
+  for (const link of links) {
+    await open(link); await settled();
+    const [, example] = /example=([\w.]+)/.exec(link) || [], [, number] = /lesson=(\d)/.exec(link) || [];
+    check(await run("document.getElementById('trouble').hidden && workbench.bench.run !== null"), link + ': ' + await textOf('#trouble'));
+    if (number) check((await textOf('#lesson-title')).startsWith(`Lesson ${number}: `), link);
+    else check(await run('workbench.bench.title') === example && await run("document.body.classList.contains('lecture')") === /lecture/.test(link), link);
+    if (said[example]) check(said[example].test((await textOf('#say')).replace(/\s+/g, ' ')), `${link}: ${await textOf('#say')}`);
+  }
+});

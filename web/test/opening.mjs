@@ -1,0 +1,119 @@
+// Files and links that come in: several at once, in either order, both in one; and what is told of those that are refused.
+import { readFileSync } from 'node:fs';
+import { deflateRawSync } from 'node:zlib';
+import { asl, at, browser, calm, check, key, open, part, PASTE, run, settled, textOf } from './kit.mjs';
+import { EXAMPLES } from './paths.mjs';
+
+const COUNTER = readFileSync(EXAMPLES + 'counter.asl', 'utf8');
+const MINE = COUNTER.replace('x + one', 'one + x').replaceAll('count', 'total');
+const bytes = data => JSON.stringify([...Buffer.from(data)]);
+const opened = async (...files) => {
+  await run(`workbench.openFiles([${files.map(([name, data]) => `{ name: ${JSON.stringify(name)}, bytes: new Uint8Array(${bytes(data)}) }`)}])`);
+  await settled();
+};
+const runOf = (source, k, threads, ...steps) => asl(['step', '--threads', threads, '--record', ...steps], asl(['compile', '--k', k], source));
+const seen = () => run('[workbench.bench.kind, workbench.bench.title, workbench.bench.k, workbench.bench.threads, workbench.bench.run?.schedule.join("")].join()');
+const told = () => run("document.getElementById('trouble').hidden ? '' : document.getElementById('trouble').textContent");
+
+await part('a run and its source: at once in either order, one after the other in either order', async () => {
+  const student = runOf(MINE, 3, 3, 0, 0, 1, 1, 2), want = 'asl,mine.asl,3,3,00112';
+  await open();
+  await opened(['student.run', student], ['mine.asl', MINE]);
+  check(await seen() === want && await told() === '', 'run, then source, at once: ' + await seen() + await told());
+  await open();
+  await opened(['mine.asl', MINE], ['student.run', student]);
+  check(await seen() === want, 'source, then run, at once: ' + await seen());
+  await open();
+  await opened(['student.run', student]);
+  check(/^asm,student\.asm,\d,3,00112$/.test(await seen()), 'a run alone is shown as assembly: ' + await seen());
+  check(/student\.run: its program is that of none of the open sources, so the run is shown in assembly\. Open its source/.test(await told()), 'and says why: ' + await told());
+  await opened(['mine.asl', MINE]);
+  check(await seen() === want, 'its source comes after it: ' + await seen());
+  await opened(['other.asl', COUNTER], ['second.run', runOf(MINE, 3, 2, 1, 1, 0)]);
+  check(await seen() === 'asl,mine.asl,3,2,110', 'a source that was opened before: ' + await seen());
+  const names = await run("[...document.querySelectorAll('#opened option')].map(e => e.textContent).join()");
+  check(names === 'student.run,mine.asl,other.asl,second.run', 'what was opened is in the list: ' + names);
+  await run("(() => { const e = document.getElementById('example'); e.value = '@0'; e.dispatchEvent(new Event('change')); })()"); await settled();
+  check(await seen() === want, 'and is shown again from there: ' + await seen());
+  for (const name of ['u', 'u']) await key(name);
+  check(await run("workbench.bench.title") !== 'student.asm' && await run('workbench.bench.past.canGoForward'), 'undo goes back to what was there');
+});
+
+await part('source and run in one file, which gives the same again', async () => {
+  await open('#lesson=3');
+  for (const name of ['0', '1', '0', '0', 'ArrowLeft']) await key(name);
+  await run("workbench.bench.setNotes({ 2: 'who comes first', 21: 'the section' })"); await calm();
+  const said = `JSON.stringify((({ lesson, ...rest }) => ({ ...rest, lesson: lesson && [lesson.number, lesson.done] }))(workbench.bench.moment()))`, before = await run(said);
+  await key('s');
+  const file = await run(`(async () => { const made = URL.createObjectURL, { click } = HTMLAnchorElement.prototype; let saved;
+    URL.createObjectURL = blob => made.call(URL, /octet/.test(blob.type) ? saved = blob : blob); HTMLAnchorElement.prototype.click = () => {};
+    [...document.querySelectorAll('.files button')].find(e => e.textContent === 'Save bank.workbench').click();
+    await new Promise(done => setTimeout(done, 300));
+    URL.createObjectURL = made; HTMLAnchorElement.prototype.click = click; return saved.text(); })()`);
+  check(/^workbench 1\ntitle bank\.asl\nkind asl\nk 0\nthreads 2\nsteps 0 1 0\*2\nat 3\nnote 3 who comes first\nnote 22 the section\nlesson lesson=3&done=0\S*\ntext\nglobal ann;/.test(file), 'the file: ' + file.slice(0, 160));
+  await open();
+  await opened(['bank.workbench', file]);
+  check(await run(said) === before, 'opened again: ' + (await run(said)).slice(-200));
+  const wrong = [['k 0', 'k 9', 'line 4: a number from 0 to 8'], ['kind asl', 'kind c', 'line 3: a kind is asl or asm'], ['steps 0 1', 'steps 0 x', 'line 6: x is no step'],
+    ['at 3', 'when 3', 'line 7: no line begins with when'], ['\ntext\n', '\n', 'line 94: the file ends without a line text'], ['workbench 1', 'workbench 2', 'line 1: the first line should be workbench 1'],
+    ['note 3 who', 'note who', 'line 8: a note is the number of a line and words']];
+  for (const [from, to, reason] of wrong) {
+    await opened(['broken.workbench', file.replace(from, to)]);
+    check((await told()).replace(/line \d+: the file/, 'line 94: the file').includes('broken.workbench: ' + reason), `${reason}: ${await told()}`);
+    await key('Escape');
+    check(await told() === '', 'Escape closes it');
+  }
+  check(await run(said) === before, 'what is refused changes nothing');
+});
+
+await part('a link is pasted: into the field, and onto the page; what cannot be read says why, until it is closed', async () => {
+  await open('#example=counter.asl&k=3&threads=2&steps=0011&at=4');
+  const paste = async words => {
+    await key('i');
+    check(await run("document.activeElement.id") === 'link', 'i opens the field');
+    await run(`document.getElementById('link').value = ${JSON.stringify(words)}`);
+    await key('Enter'); await settled();
+  };
+  const packed = deflateRawSync(MINE).toString('base64url');
+  await paste('file:///home/student/workbench.html#asl=' + packed + '&title=theirs.asl&k=1&threads=3&steps=0012&at=2&lecture&theme=dark&keys=off');
+  check(await seen() === 'asl,theirs.asl,1,3,0012' && (await at())[0] === 2, 'a link of another place: ' + await seen());
+  check(await run("document.documentElement.dataset.dark !== '1' && !document.body.classList.contains('lecture')"), 'the look of the page stays');
+  const refused = [['https://a.b/c', /^✕ The link: it has no #/], ['x#asl=' + packed.slice(0, -9), /its text cannot be unpacked\. The link was cut/], ['x#example=none.asl', /there is no example of the name none\.asl\./],
+    ['x#lesson=99', /there is no lesson 99/], ['x#asl=' + packed + '&steps=~AAAA', /its schedule cannot be unpacked/], ['x#view=code', /nothing that can be opened/],
+    ['x#asl=' + deflateRawSync(Buffer.alloc(2 ** 24 + 1, ' ')).toString('base64url'), /its text has more than 16777216 bytes/]];
+  for (const [words, reason] of refused) {
+    await paste(words);
+    check(reason.test(await told()), `${words.slice(0, 30)}: ${await told()}`);
+    check(await seen() === 'asl,theirs.asl,1,3,0012', 'nothing is lost by it');
+    await browser.sleep(100);
+    await run("document.getElementById('trouble-close').click()"); await calm();
+  }
+  await run(`document.body.dispatchEvent((${PASTE})('x#example=bank.asl&k=2&threads=4'))`); await settled();
+  check(await seen() === 'asl,bank.asl,2,4,', 'pasted onto the page: ' + await seen());
+});
+
+await part('refused files are told in plain words, and stay; the bar does not speak of the old run', async () => {
+  await open('#example=counter.asl&k=3&threads=2&steps=0011&at=4');
+  const file = readFileSync(EXAMPLES + 'counter.run'), image = asl(['compile'], COUNTER);
+  const cases = [['short.run', file.subarray(0, 30), /Its program cannot be read|The bytes end too early/], ['long.run', Buffer.concat([file, Buffer.from('x')]), /Its list of steps cannot be read\. There are bytes after the end/],
+    ['other.run', Buffer.concat([file.subarray(0, -1), Buffer.from([0])]), /does not belong to this program/], ['cut.img', image.subarray(0, 20), /The bytes end too early, at byte 20/]];
+  for (const [name, data, reason] of cases) {
+    await opened([name, data]);
+    const words = await told();
+    check(words.includes(name + ': ') && reason.test(words) && !/\w\(\d+\)/.test(words), `${name}: ${words}`);
+    check(String(await at()) === '4,4', name + ': the run stays');
+  }
+  await browser.sleep(3800);
+  check((await told()).includes('cut.img'), 'it stays until it is closed');
+  await run("document.getElementById('trouble-close').click()"); await calm();
+  check(await told() === '', 'closed');
+  const long = 'global g;\n'.repeat(120) + 'fn main(t) {\n  x = ;\n  return t;\n}\n';
+  await opened(['bad.asl', long.replaceAll('global g;', (i => () => `global g${i++};`)(0))]);
+  check(await run('workbench.bench.run === null') && /no run/.test(await textOf('#position')) && await run("document.getElementById('slide').disabled"), 'the bar: ' + await textOf('#position'));
+  check(!/Event 3|blocked/.test(await textOf('#say')), 'the sentence: ' + await textOf('#say'));
+  const inSight = await run(`(() => { const a = document.querySelector('#paint .refused')?.getBoundingClientRect(), b = document.getElementById('editor').getBoundingClientRect();
+    return Boolean(a && a.top >= b.top && a.bottom <= b.bottom && a.bottom <= innerHeight); })()`);
+  check(inSight && /Line 122/.test(await textOf('#complaint')), 'the bad line is in sight: ' + await textOf('#complaint'));
+  await key('u');
+  check(String(await at()) === '4,4' && await run("workbench.bench.title") === 'counter.asl', 'undo brings the old text and its run');
+});

@@ -1,0 +1,91 @@
+// Lists by hand: the panel's lists are those of the program, the verdict is that of the native `check`, and the run goes on under them.
+import { readFileSync } from 'node:fs';
+import { asl, at, browser, calm, check, key, open, part, run, settled, textOf } from './kit.mjs';
+import { EXAMPLES } from './paths.mjs';
+
+const listsOf = text => text.split(/^list\n/m).slice(1);
+const withLists = (text, lists) => text.split(/^list\n/m)[0] + lists.map(list => 'list\n' + list).join('');
+const shown = () => run("[...document.querySelectorAll('#own-lists textarea')].map(area => area.value)");
+export const writeList = async (section, list) => {
+  await run(`(() => { const t = document.querySelector('[data-list="${section}"]'); t.focus(); t.value = ${JSON.stringify(list)};
+    t.dispatchEvent(new Event('input')); t.blur(); })()`);
+  await browser.sleep(250); await calm(); await settled();
+};
+const verdict = () => textOf('#own-verdict');
+// What the native program says of a source and lists.
+function judged(source, text, k) {
+  try { asl(['check', '--k', k], source + '\0' + text); return ''; } catch (error) { return String(error.stderr).trim() || 'refused'; }
+}
+
+await part('lists by hand are judged as the native check judges them', async () => {
+  for (const [name, k] of [['bank.asl', 1], ['walk.asl', 2], ['counter.asl', 0], ['hash.asl', 3]]) {
+    const source = readFileSync(EXAMPLES + name, 'utf8'), text = asl(['compile', '--text', '--k', k], source).toString(), lists = listsOf(text);
+    await open(`#example=${name}&k=${k}&threads=2`);
+    await key('v'); await settled();
+    check(JSON.stringify(await shown()) === JSON.stringify(lists), `${name}: the lists are the inferred ones: ${await shown()}`);
+    check(/✓ enough/.test(await verdict()), `${name}: which are enough: ${await verdict()}`);
+    const s = lists.findLastIndex(list => list), locks = lists[s].trimEnd().split('\n');
+    const others = [['', lists.map((list, i) => (i === s ? '' : list))], ['root write\n', lists.map((list, i) => (i === s ? 'root write\n' : list))],
+      [locks.slice(1).join('\n'), lists.map((list, i) => (i === s ? locks.slice(1).map(lock => lock + '\n').join('') : list))]];
+    for (const [typed, now] of locks.length > 1 ? others : others.slice(0, 2)) {
+      await writeList(s, typed);
+      const said = judged(source, withLists(text, now), k), [, why, section, lock] = /^asl: (\w+)\((\d+), (.*)\)$/.exec(said) || [];
+      check(said ? /✕ not enough/.test(await verdict()) : /✓ enough/.test(await verdict()), `${name} under ${typed}: ${await verdict()}, native ${said}`);
+      if (!why) continue;
+      check(!(await verdict()).includes(lock), 'the lock is told on request only');
+      await run("document.querySelector('[data-keep=\"which\"]').click()"); await calm();
+      const told = `Section ${section} ${why === 'Unguarded' ? 'reads by its list' : 'needs'} ${lock}`;
+      check((await verdict()).includes(told), `${name} under ${typed}: ${await verdict()} / ${told}`);
+    }
+    await run("document.querySelectorAll('#own-lists button').forEach(b => b.click())"); await settled();
+    check(JSON.stringify(await shown()) === JSON.stringify(lists) && await run('!workbench.bench.ownBuilt'), `${name}: as inferred again`);
+  }
+});
+
+await part('a list that is half typed stays where it is, and what is wrong is told above it', async () => {
+  await browser.size(1366, 768);
+  await open('#example=bank.asl&k=1&threads=2');
+  await key('v'); await settled();
+  const seen = () => run("(({ top, bottom, left }) => [Math.round(left), Math.round(top), bottom <= innerHeight])(document.activeElement.getBoundingClientRect())");
+  const [left, top] = await seen();
+  await browser.typed('expr r1 re'); await browser.sleep(250); await settled();
+  const [nowLeft, nowTop, inSight] = await seen();
+  check(nowLeft === left && Math.abs(nowTop - top) < 60 && inSight, `from ${left}, ${top} to ${nowLeft}, ${nowTop}`);
+  check(/✕ refused: List of section 0, line 2, expr r1 re/.test(await verdict()), await verdict());
+  await browser.typed('ad'); await browser.sleep(250); await settled();
+  check(/✓ enough/.test(await verdict()), 'and then it is judged: ' + await verdict());
+  await browser.size(1400, 1000);
+});
+
+await part('a run goes on under lists by hand, to the fault of the native program', async () => {
+  const source = readFileSync(EXAMPLES + 'counter.asl', 'utf8'), text = asl(['compile', '--text'], source).toString();
+  await open('#example=counter.asl&k=3&threads=2&steps=0011&at=4');
+  await key('v'); await settled();
+  await writeList(0, 'expr r1 read');
+  const under = withLists(text, ['expr r1 read\n']);
+  check(String(await at()) === '4,4', 'the schedule stays');
+  for (const name of ['r', 'Home', 'f']) await key(name);
+  const schedule = await run('workbench.bench.run.schedule'), lines = asl(['step', '--threads', 2, ...schedule], under).toString().trim().split('\n');
+  const [now] = await at(), fault = lines.findIndex(line => / fault /.test(line));
+  check(fault >= 0 && now === fault + 1 && /it writes count and has no lock for that/.test(await textOf('#say')), `event ${now - 1}, native ${fault}: ${await textOf('#say')}`);
+  check(Buffer.from(await run('btoa(String.fromCharCode(...workbench.bench.image))'), 'base64').equals(asl(['asm'], under)), 'the image has these lists');
+  check(await run("document.getElementById('comparison').hidden"), 'other k are not compared with them');
+  await key('u'); await key('u'); await settled();
+  check(await run('!workbench.bench.ownBuilt'), 'undo brings the inferred list back');
+  await key('U'); await key('U'); await settled();
+  check(await run('workbench.bench.ownBuilt'), 'redo brings that of one\'s own again');
+  await writeList(0, 'expr r1 rite');
+  check(/List of section 0, line 1/.test(await textOf('#complaint')) && await run("document.querySelector('[data-list=\"0\"]').getAttribute('aria-invalid')") === 'true', 'a list that is none: ' + await textOf('#complaint'));
+  await writeList(0, 'list\nroot write');
+  check(/is no lock/.test(await textOf('#complaint')), 'a list cannot end another: ' + await textOf('#complaint'));
+  await writeList(0, 'expr r1 write');
+  check(await run("document.getElementById('complaint').hidden") && /✓ enough/.test(await verdict()), 'and then it is one: ' + await verdict());
+  await writeList(0, 'expr r1 read');
+  const file = await run('workbench.bench.run.file().then(bytes => Array.from(bytes))'), link = await run("document.querySelector('#share').click()"); await settled();
+  await run("document.getElementById('dialog').close()");
+  await open(await run('location.hash')); await settled();
+  check(await run('workbench.bench.ownBuilt') && await run('workbench.bench.own[0]') === 'expr r1 read', 'a link keeps them: ' + link);
+  await open('#example=bank.asl');
+  await run(`workbench.loadFile('own.run', new Uint8Array(${JSON.stringify(file)}))`); await settled();
+  check(await run("workbench.bench.kind === 'asl' && workbench.bench.title === 'counter.asl' && workbench.bench.own[0] === 'expr r1 read\\n'"), 'a run file has them: ' + await run('workbench.bench.title + JSON.stringify(workbench.bench.own)'));
+});
