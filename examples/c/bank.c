@@ -136,16 +136,25 @@ typedef struct {
   size_t count;
 } request;
 
-/* asks the mode at the node too: two modes join by a bitwise or */
+/* negative where a stands before b: the root, classes by number, leaves by class, object and offset */
+static int order(const asl_ask *a, const asl_ask *b) {
+  if (a->kind != b->kind) return a->kind - b->kind;
+  if (a->klass != b->klass) return a->klass - b->klass;
+  if (a->object != b->object) return a->object - b->object;
+  return a->offset - b->offset;
+}
+
+/* asks the mode at the node too, in its place: two modes join by a bitwise or */
 static void ask(request *all, asl_ask one) {
-  for (size_t i = 0; i < all->count; i++) {
-    asl_ask *other = &all->asks[i];
-    if (other->kind == one.kind && other->klass == one.klass && other->object == one.object && other->offset == one.offset) {
-      other->mode |= one.mode;
-      return;
-    }
+  size_t place = all->count;
+  while (place > 0 && order(&one, &all->asks[place - 1]) < 0) place--;
+  if (place > 0 && order(&one, &all->asks[place - 1]) == 0) {
+    all->asks[place - 1].mode |= one.mode;
+    return;
   }
-  all->asks[all->count++] = one;
+  memmove(&all->asks[place + 1], &all->asks[place], (all->count - place) * sizeof one);
+  all->asks[place] = one;
+  all->count++;
 }
 
 static void ask_for(request *all, const lock *of, const uint16_t registers[REGISTERS]) {
