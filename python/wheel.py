@@ -1,5 +1,5 @@
 """Makes the wheel of this package for `pip install .`, by the standard library alone, so that nothing is fetched. In it is the shared
-library, which ../bench/library makes of what the repository carries, with a C compiler and without the kit; ASL_LIBRARY may name
+library, which ../tools/library makes of what the repository carries, with a C compiler and without the kit; ASL_LIBRARY may name
 another file."""
 import base64
 import hashlib
@@ -29,7 +29,7 @@ def library():
     named = os.environ.get("ASL_LIBRARY")
     if named:
         return pathlib.Path(named)
-    subprocess.run([HERE.parent / "bench/library"], check=True)
+    subprocess.run([HERE.parent / "tools/library"], check=True)
     return HERE.parent / "out/lib" / LIBRARY
 
 

@@ -40,7 +40,7 @@ def _loaded() -> Tuple[ctypes.CDLL, str]:
             return found, place
         except (OSError, AttributeError) as error:
             said.append(str(error))
-    raise LibraryError(f"{NAME} is not found; bench/library makes it, and ASL_LIBRARY may name it: " + "; ".join(said))
+    raise LibraryError(f"{NAME} is not found; tools/library makes it, and ASL_LIBRARY may name it: " + "; ".join(said))
 
 
 LIBRARY, _PATH = _loaded()

@@ -114,9 +114,9 @@ class Explain(unittest.TestCase):
 
 
 def random_sources(count):
-    """So many random sources of bench/compare, the same at each call."""
-    sys.path.insert(0, str(ROOT / "bench"))
-    loader = importlib.machinery.SourceFileLoader("compare", str(ROOT / "bench/compare"))
+    """So many random sources of tests/by-hand/compare, the same at each call."""
+    sys.path.insert(0, str(ROOT / "tests"))
+    loader = importlib.machinery.SourceFileLoader("compare", str(ROOT / "tests/by-hand/compare"))
     compare = importlib.util.module_from_spec(importlib.util.spec_from_loader("compare", loader))
     loader.exec_module(compare)
     return [compare.source(random.Random(seed)) for seed in range(count)]

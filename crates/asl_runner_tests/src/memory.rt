@@ -1,5 +1,5 @@
 //! Refused memory. A run answers that an allocation or a thread's start failed, without a report, and the same call with a
-//! new gate then answers as with ample memory. So the test passes whichever one allocation fails: `bench/refused` refuses
+//! new gate then answers as with ample memory. So the test passes whichever one allocation fails: `tools/refused` refuses
 //! each in turn.
 use crate::runs::{Relay, TWO, Told, counter, outcome};
 use asl_code::Program;
