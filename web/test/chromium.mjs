@@ -63,6 +63,8 @@ export async function openChromium(binary = process.env.CHROMIUM || 'chromium') 
   });
   const version = (await send('Browser.getVersion')).result.product.split('/')[1];
   for (const domain of ['Page', 'Runtime', 'Log', 'Network']) await send(domain + '.enable');
+  // a page that is so many times slower shows which checks depend on the time
+  if (process.env.SLOW) await send('Emulation.setCPUThrottlingRate', { rate: +process.env.SLOW });
   const run = async expression => {
     const { result } = await send('Runtime.evaluate', { expression, awaitPromise: true, returnByValue: true });
     if (result.exceptionDetails) throw new Error(result.exceptionDetails.exception?.description || result.exceptionDetails.text);
