@@ -6,7 +6,7 @@ use Rattle.std.proofs.lemmas.Bool.{le-ltb, ltb-true, lt-ltb, both_ways, false_fr
 use Rattle.std.proofs.lemmas.Bool.Decides.{Decides-ltb, Decides-eqb, Decides-and, Decides-or}
 use Rattle.asl_lock_forest.specs.declared.node.Node.{Node}
 use Rattle.asl_lock_forest.specs.declared.node.Node.TheVariants.{Root, Class, Leaf}
-use Rattle.asl_c_forest.specs.Order.{is_below}
+use Rattle.asl_lock_queue.specs.Order.{is_below}
 
 -- three numbers come before three others
 abbrev Lex : ℕ → ℕ → ℕ → ℕ → ℕ → ℕ → Type 0

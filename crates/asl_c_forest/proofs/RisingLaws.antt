@@ -5,7 +5,7 @@ use Rattle.asl_lock_forest.specs.declared.node.Node.{Node}
 use Rattle.asl_lock_forest.specs.Holding.{Request}
 use Rattle.asl_lock_forest.specs.Request.{names, names_once}
 use Rattle.asl_lock_forest.proofs.Laws.{tell_nodes}
-use Rattle.asl_c_forest.specs.Order.{is_below, is_after, rises_after, is_rising}
+use Rattle.asl_lock_queue.specs.Order.{is_below, is_after, rises_after, is_rising}
 use Rattle.asl_c_forest.proofs.OrderLaws.{below_apart, below_trans}
 
 -- what rises after a node rises after one that is below it

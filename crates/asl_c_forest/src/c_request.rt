@@ -1,5 +1,5 @@
 //! What C asks for: nodes and modes by their numbers.
-ghost use Rattle.std.specs.Prelude.{◌≡◌, ◌<◌, map, length, IfOk, OnErr};
+ghost use Rattle.std.specs.Prelude.{◌≡◌, ◌<◌, ◌≤◌, [], map, length, vec_capacity, IfOk, OnOk, OnErr};
 ghost use Rattle.asl_mode_lanes.specs.Row.{mode_of};
 ghost use Rattle.asl_c_forest.specs.Asks.{node_of, ask_of};
 
@@ -71,4 +71,21 @@ pub fn read(alloc: Global, asks: &[Ask]) -> Result<Vec<(Node, Mode)>, AllocError
         request.push(pair(*ask))?;
     }
     Ok(request)
+}
+
+/// Makes the request in a vector in which nothing stands.
+///
+/// # Errors
+///
+/// An allocation failed, and there was less room than is asked.
+pub fn read_into(request: &mut Vec<(Node, Mode)>, asks: &[Ask]) -> Result<(), AllocError>
+    requires { request.old.items ≡ [] }
+    ensures ok { OnOk result (request.new.items ≡ map ask_of asks.now) }
+    ensures full { OnErr result (vec_capacity request.old < length asks.now) }
+    ensures room { vec_capacity request.old ≤ vec_capacity request.new }
+{
+    for ask in asks {
+        request.push(pair(*ask))?;
+    }
+    Ok(())
 }

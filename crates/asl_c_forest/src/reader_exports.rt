@@ -57,7 +57,7 @@ pub extern "C" fn asl_forest_mode(
 }
 
 /// What an access does.
-fn effect(writes: bool) -> Effect
+pub(crate) fn effect(writes: bool) -> Effect
     ensures { result ≡ effect_of writes }
 {
     if writes { Effect::Write } else { Effect::Read }

@@ -6,11 +6,12 @@ ghost use Rattle.asl_lock_forest.specs.Node.{IsThere, parent_of, parent_mode};
 ghost use Rattle.asl_lock_forest.specs.Holding.{asked, HoldsNothing};
 ghost use Rattle.asl_lock_forest.specs.Request.{names, names_once, asks_modes, asks_parents, asks_parent_of};
 ghost use Rattle.asl_c_forest.specs.Asks.{ask_of};
-ghost use Rattle.asl_c_forest.specs.Order.{is_below, is_after, is_rising};
+ghost use Rattle.asl_lock_queue.specs.Order.{is_after, is_rising};
 ghost use Rattle.asl_c_forest.specs.Status.{is_kind, is_there, has_kinds, has_classes, holds_nothing};
 
 use crate::c_request::{Ask, mode, node};
 use asl_lock_forest::{Forest, Node};
+use asl_lock_queue::is_below;
 use asl_mode_lanes::Mode;
 
 /// Whether a kind of node has this number.
@@ -95,25 +96,6 @@ fn names(asks: &[Ask], node: Node) -> bool
     false
 }
 
-/// Whether `a` comes before `b`: the root, the classes by their numbers, the leaves by class, object and offset.
-fn is_below(a: Node, b: Node) -> bool
-    ensures { result ≡ is_below a b }
-{
-    match (a, b) {
-        (Node::Root, Node::Root) => false,
-        (Node::Root, _) => true,
-        (_, Node::Root) => false,
-        (Node::Class(c), Node::Class(d)) => c < d,
-        (Node::Class(_), Node::Leaf(_, _)) => true,
-        (Node::Leaf(_, _), Node::Class(_)) => false,
-        (Node::Leaf(x, c), Node::Leaf(y, d)) => {
-            c < d
-                || (c == d
-                    && (x.object < y.object || (x.object == y.object && x.offset < y.offset)))
-        }
-    }
-}
-
 /// Whether the node comes after the last one, if there is one.
 fn is_after(last: Option<Node>, node: Node) -> bool
     ensures { result ≡ is_after last node }
@@ -125,7 +107,7 @@ fn is_after(last: Option<Node>, node: Node) -> bool
 }
 
 /// Whether each node comes after the one before it.
-fn is_rising(asks: &[Ask]) -> bool
+pub(crate) fn is_rising(asks: &[Ask]) -> bool
     ensures { result ≡ is_rising (map ask_of asks.now) }
 {
     let mut last = None;

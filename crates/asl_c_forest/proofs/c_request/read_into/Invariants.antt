@@ -1,0 +1,9 @@
+use Rattle.std.proofs.Common.{◌≡◌, ◌≤◌, take, map, vec_capacity}
+use Rattle.asl_c_forest.specs.Asks.{ask_of}
+use Rattle.asl_c_forest.proofs.c_request.read_into.Given as goal
+
+abbrev pub invariant-loop-ask : goal.invariant-loop-ask
+invariant-loop-ask l = record {
+  items : l.request.items ≡ map ask_of (take l.ask-index l.asks);
+  room : vec_capacity l.fn.request ≤ vec_capacity l.request;
+}
