@@ -1,8 +1,8 @@
 /* A bank with POSIX threads, under the locks that asl infers for the section `transfer` of examples/bank.asl.
  *
  * It reads the section's list from the text that `asl compile --text` prints, and keeps it as a runtime would: at the entry of a
- * section the list is evaluated to a request, which the lock forest grants as a whole or not at all; who is refused waits until
- * somebody releases, and evaluates anew. The forest is shared under one mutex.
+ * section the list is evaluated to a request, which the forest grants as a whole, or lets wait in its queue; whoever leaves a section
+ * wakes those, and only those, whom the queue names. The queue is shared under one mutex.
  *
  * It prints transfers a second: under one global mutex, and under each list, with 1, 2 and 4 threads and with sections of 1 and
  * of 50 microseconds. The sum of all accounts is checked.
@@ -178,34 +178,40 @@ static void ask_for(request *all, const lock *of, const uint16_t registers[REGIS
 
 /* ---- sections */
 
-static asl_forest forest;
-static pthread_mutex_t forest_lock = PTHREAD_MUTEX_INITIALIZER, global_lock = PTHREAD_MUTEX_INITIALIZER;
-static pthread_cond_t released = PTHREAD_COND_INITIALIZER;
+static asl_queue queue;
+static pthread_mutex_t queue_lock = PTHREAD_MUTEX_INITIALIZER, global_lock = PTHREAD_MUTEX_INITIALIZER;
+static struct {
+  pthread_cond_t named;
+  bool goes_on;
+} waits[MAX_THREADS];
 static list transfer_list;
 static bool is_global;
 static long microseconds;
 static atomic_bool stops;
 
 /* The cells that the expressions read, those of the globals, do not change here: so the request that is granted is still the
- * list's. Where they may, evaluate once more after the grant, and begin again if it is another request. */
+ * list's. Where they may, evaluate once more after the grant, and give back and begin again if it is another request. */
 static void enter(uint32_t thread, const uint16_t registers[REGISTERS]) {
-  pthread_mutex_lock(&forest_lock);
-  for (;;) {
-    request all = {.count = 0};
-    for (unsigned i = 0; i < transfer_list.count; i++) ask_for(&all, &transfer_list.locks[i], registers);
-    uint32_t status = asl_forest_try_acquire(&forest, thread, all.asks, all.count);
-    if (status == ASL_OK) break;
-    if (status != ASL_IN_THE_WAY) fail("a request is refused");
-    pthread_cond_wait(&released, &forest_lock);
-  }
-  pthread_mutex_unlock(&forest_lock);
+  request all = {.count = 0};
+  for (unsigned i = 0; i < transfer_list.count; i++) ask_for(&all, &transfer_list.locks[i], registers);
+  pthread_mutex_lock(&queue_lock);
+  uint32_t status = asl_queue_acquire(&queue, thread, all.asks, all.count);
+  if (status != ASL_OK && status != ASL_IN_THE_WAY) fail("a request is refused");
+  waits[thread].goes_on = status == ASL_OK;
+  while (!waits[thread].goes_on) pthread_cond_wait(&waits[thread].named, &queue_lock);
+  pthread_mutex_unlock(&queue_lock);
 }
 
 static void leave(uint32_t thread) {
-  pthread_mutex_lock(&forest_lock);
-  if (asl_forest_release(&forest, thread) != ASL_OK) fail("a release is refused");
-  pthread_cond_broadcast(&released);
-  pthread_mutex_unlock(&forest_lock);
+  uint32_t named[MAX_THREADS];
+  size_t count;
+  pthread_mutex_lock(&queue_lock);
+  if (asl_queue_release(&queue, thread, named, MAX_THREADS, &count) != ASL_OK) fail("a release is refused");
+  for (size_t i = 0; i < count; i++) {
+    waits[named[i]].goes_on = true;
+    pthread_cond_signal(&waits[named[i]].named);
+  }
+  pthread_mutex_unlock(&queue_lock);
 }
 
 static double seconds(void) {
@@ -290,12 +296,14 @@ static void row(const char *text, long milliseconds) {
 int main(int words, char **word) {
   if (words < 3) fail("usage: bank MILLISECONDS TEXT..");
   for (int a = 0; a < ACCOUNTS; a++) balance[a] = START;
-  if (asl_forest_new(1024, MAX_THREADS, &forest) != ASL_OK) fail("no forest");
+  for (int t = 0; t < MAX_THREADS; t++) pthread_cond_init(&waits[t].named, NULL);
+  if (asl_queue_new(1024, MAX_THREADS, &queue) != ASL_OK) fail("no queue");
+  if (asl_queue_reserve(&queue, MAX_ASKS) != ASL_OK) fail("no room for requests");
   for (microseconds = 1; microseconds <= 50; microseconds += 49) {
     printf("transfers a second, sections of %ld us, threads: %6d %12d %12d\n", microseconds, 1, 2, 4);
     row(NULL, atol(word[1]));
     for (int text = 2; text < words; text++) row(word[text], atol(word[1]));
   }
-  asl_forest_free(&forest);
+  asl_queue_free(&queue);
   printf("the sum is kept\n");
 }
