@@ -13,6 +13,8 @@ enum { ROUNDS = 15, MOST = 258, SIZES = 5, OTHERS = 66 };
 
 static const size_t sizes[SIZES] = {1, 4, 16, 66, MOST};
 static asl_forest forest;
+static asl_queue queue;
+static uint32_t named[128];
 
 static double now(void) {
   struct timespec at;
@@ -38,6 +40,12 @@ static size_t request(asl_ask *asks, size_t nodes, uint16_t first) {
 static void by_forest(const asl_ask *asks, size_t count) {
   must(asl_forest_try_acquire(&forest, 0, asks, count));
   must(asl_forest_release(&forest, 0));
+}
+
+static void by_queue(const asl_ask *asks, size_t count) {
+  size_t gone;
+  must(asl_queue_acquire(&queue, 0, asks, count));
+  must(asl_queue_release(&queue, 0, named, 128, &gone));
 }
 
 /* a table of bytes by node, and a copy of the request: what a plain forest of one thread's requests would do at least */
@@ -74,17 +82,23 @@ static void row(const char *what, void (*turn)(const asl_ask *, size_t)) {
 static void table_of(uint32_t threads) {
   asl_ask others[OTHERS];
   must(asl_forest_new(1024, threads, &forest));
+  must(asl_queue_new(1024, threads, &queue));
+  must(asl_queue_reserve(&queue, MOST));
   printf("%-44s", threads == 4 ? "4 threads; try_acquire and release, nodes:" : "128 threads");
   for (int i = 0; i < SIZES; i++) printf(" %8zu", sizes[i]);
   printf("\n");
   row("rising", by_forest);
+  row("rising, by a queue", by_queue);
   is_falling = true;
   row("with leaves that fall", by_forest);
   is_falling = false;
   request(others, OTHERS, 1000);
   must(asl_forest_try_acquire(&forest, 1, others, OTHERS));
+  must(asl_queue_acquire(&queue, 1, others, OTHERS));
   row("rising, beside 64 leaves of another", by_forest);
+  row("rising, by a queue, beside 64 leaves", by_queue);
   must(asl_forest_free(&forest));
+  must(asl_queue_free(&queue));
 }
 
 int main(void) {
