@@ -1,8 +1,9 @@
 -- What one addition does to what is found, by the part of a region before and after it.
-use Rattle.std.proofs.Common.{◌≡◌, ℕ, ◌+◌, ◌<◌, ◌≤◌, Bool, List, Some, length, slice_get, slice_set, ap, sym, subst, get_or, ◌∙◌}
+use Rattle.std.proofs.Common.{◌≡◌, ℕ, ◌+◌, ◌<◌, ◌≤◌, Bool, List, Some, length, map, slice_get, slice_set, ap, sym, subst, get_or, ◌∙◌}
 use Rattle.asl_code.specs.declared.lock.Lock.{Lock}
 use Rattle.asl_backward_flow.specs.declared.region_needs.RegionNeeds.{RegionNeeds}
-use Rattle.asl_backward_flow.specs.Found.{Table, table_of, AreApart, locks_of, first_of, sets_of, HasFact, IsWhole, Adds, Lists, Numbers, IsMarked, IsPut}
+use Rattle.asl_backward_flow.specs.Found.{Table, table_of, AreApart, locks_of, first_of, sets_of, HasFact, IsWhole, Adds, Lists, Numbers, IsMarked, IsPut, list_at}
+use Rattle.asl_backward_flow.proofs.ReplacedLists.{list_here}
 use Rattle.asl_backward_flow.proofs.Tables.{Step, step_of, locks_before, sets_before, first_before, is_over, adds_name, kept, adds_fact, has_fact, whole_fact, lists_fact}
 
 -- one region has one more lock, perhaps, and numbers in a set, perhaps
@@ -22,6 +23,9 @@ module _ (parts : List RegionNeeds) (p q : ℕ) (x y : RegionNeeds) (list more :
 
   pub part_adds : (pc : ℕ) → IsWhole before → y.needs.items ≡ x.needs.items → Adds before after (λ r s m. (r ≡ p) × (s ≡ pc) × These m)
   part_adds pc whole kept = adds_name before after p y.locks.keys y.needs.items step These numbered (kept ∙ sym (sets_before parts p q x list same there is)) pc whole
+
+  pub part_locks : locks_of after p ≡ y.locks.keys
+  part_locks = ap (λ l. list_at l p) step.locks_are ∙ list_here (map (λ (z : RegionNeeds). z.locks.keys) parts) p y.locks.keys step.there
 
   pub part_over : 4096 < length y.locks.keys → (4096 < length (locks_of after p)) × AreApart (locks_of after p)
   part_over over = is_over before after p y.locks.keys y.needs.items step These numbered over

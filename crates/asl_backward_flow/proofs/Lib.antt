@@ -14,6 +14,8 @@ mod Additions
 mod Numbering
 mod Steps
 mod Adding
+mod Fronts
+mod Entering
 mod Each
 -- points of regions, and those that wait
 mod SpanLaws
@@ -22,7 +24,6 @@ mod Waits
 mod Taking
 mod Befores
 -- what locks become over an instruction, at calls and at entries
-mod Fronts
 mod Masking
 mod Splitting
 mod Linking

@@ -117,11 +117,8 @@ module _ (r : Read) (part pc : ℕ) (s : Span) (there : slice_get r.spans part �
       all = added_to_none none locks _ empty made
 
 -- at no call nothing is entered
-pub entered_none : (r : Read) (part pc : ℕ) (i : Instr) (lock : Lock) → slice_get r.lowered.code pc ≡ Some i → ((to first g : ℕ) → i ≡ instr.Call to first g → ⊥) → (locks : List Lock) → locks ≡ [] → (m : Lock) → IsOne locks m ↔ IsEntered r part pc lock m
-entered_none r part pc i lock stands not locks empty m = (
-  λ h. absurd (subst (λ l. IsOne l m) empty h),
-  λ h. absurd (not h.to h.first h.function (some_same (sym stands ∙ h.stands))),
-)
+pub not_entered : (r : Read) (part pc : ℕ) (i : Instr) (lock : Lock) → slice_get r.lowered.code pc ≡ Some i → ((to first g : ℕ) → i ≡ instr.Call to first g → ⊥) → (m : Lock) → IsEntered r part pc lock m → ⊥
+not_entered r part pc i lock stands not m h = not h.to h.first h.function (some_same (sym stands ∙ h.stands))
 
 all_at : {A : Type 0} (P : A → Type 0) (xs : List A) → All P xs → (n : ℕ) (x : A) → slice_get xs n ≡ Some x → P x
 all_at P xs h n x e = subst P (get_or_from_slice_get xs n x x e) (h n x (slice_get_within xs n x e))

@@ -123,6 +123,12 @@ pub record Numbers (old new : List Lock) (These : Lock → Type 0) : Type 0 wher
   pub apart : AreApart new
   pub longer : length new ≤ length old + 1
 
+-- a set that has the numbers of these locks too
+pub record HasNumbers (locks these : List Lock) (old new : List Bool) : Type 0 where
+  pub kept : (n : ℕ) → IsIn old n → IsIn new n
+  pub only : (n : ℕ) → IsIn new n → IsIn old n ⊎ ((m : Lock) × IsOne these m × (slice_get locks n ≡ Some m))
+  pub all : (m : Lock) → IsOne these m → IsNamed locks new m
+
 -- how many numbers below one are not in the set
 unfoldable pub free : ℕ → List Bool → ℕ
 free zero set = 0

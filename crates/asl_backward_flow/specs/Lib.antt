@@ -9,4 +9,5 @@ pub mod Graph
 pub mod Follows
 pub mod Masked
 pub mod Passed
+pub mod Entering
 pub mod Parts

@@ -1,23 +1,25 @@
 //! What the locks at the entry of a function become at its calls.
-ghost use Rattle.std.specs.Prelude.{◌≡◌, ◌<◌, ◌↔◌, ℕ, Some, length, slice_get, OnOk, IfOk, IfErr};
+ghost use Rattle.std.specs.Prelude.{◌≡◌, ◌<◌, ◌↔◌, ◌⊎◌, ℕ, Some, length, slice_get, OnOk, IfOk, IfErr};
 ghost use Rattle.asl_lane_sets.specs.NumberSet.{IsIn};
 ghost use Rattle.asl_lock_expr.specs.Links.{IsOne};
 ghost use Rattle.asl_backward_flow.specs.Found.{table, locks_of, IsNamed};
 ghost use Rattle.asl_backward_flow.specs.Passed.{ArePassed, IsPassed};
-ghost use Rattle.asl_backward_flow.specs.Follows.{read, IsRead, IsReady, IsAtPoint, IsEntered, WithFronts, At, IsCalledAt, IsAtCall, AtCallOf, IsEntryOf, Added, Stopped};
+ghost use Rattle.asl_backward_flow.specs.Entering.{IsEnteredOf, IsCalledAtOf, IsEnteredAt, AreEntered};
+ghost use Rattle.asl_backward_flow.specs.Follows.{read, IsRead, IsReady, IsAtPoint, IsEntered, At, AtCallOf, IsEntryOf, Added, Stopped};
 
-use crate::access_needs::{add_with_prefixes, view};
+use crate::access_needs::view;
+use crate::entered::AllEntered;
 use crate::flow_analysis::FlowAnalysis;
 use crate::found::{AddFault, Found};
 use crate::region::Region;
 use crate::region_needs::make_room;
 use asl_code::{Instr, Lock};
 use asl_lane_sets::Bits;
-use asl_lock_expr::add_entered;
+use asl_lock_expr::{add_entered, prefixes};
 use std::alloc::{AllocError, Global};
 
 /// Where the pc is the entry of a body, adds what the locks of these numbers become at each call of its function. `passed` has those
-/// of each region that were passed on before, and gets these.
+/// of each region that were passed on before, and gets these. `known` is scratch space: what it holds at first does not count.
 pub fn add_entry(
     alloc: Global,
     analysis: &FlowAnalysis,
@@ -25,6 +27,7 @@ pub fn add_entry(
     pc: u16,
     set: &Bits,
     passed: &mut Vec<Bits>,
+    known: &mut AllEntered,
     found: &mut Found,
 ) -> Result<(), AddFault>
     requires analysis { IsRead (read analysis.now) }
@@ -42,7 +45,7 @@ pub fn add_entry(
     match span.region {
         Region::Body(function) if pc == span.first => {
             let passed = &mut passed[usize::from(part)];
-            pass_on(alloc, analysis, part, function, set, passed, found)
+            pass_on(alloc, analysis, part, function, set, passed, known, found)
         }
         _ => Ok(()),
     }
@@ -57,6 +60,7 @@ fn pass_on(
     function: u16,
     set: &Bits,
     passed: &mut Bits,
+    known: &mut AllEntered,
     found: &mut Found,
 ) -> Result<(), AddFault>
     requires analysis { IsRead (read analysis.now) }
@@ -71,7 +75,7 @@ fn pass_on(
         (AtCallOf (read analysis.now) function (IsNamed (locks_of (table found.old) part) set.now))) }
 {
     let others = set.without(passed)?;
-    add_all_calls(alloc, analysis, part, function, &others, found)?;
+    add_all_calls(alloc, analysis, part, function, &others, known, found)?;
     make_room(passed, set.len())?;
     passed.add_all(set);
     Ok(())
@@ -84,6 +88,7 @@ fn add_all_calls(
     part: u16,
     function: u16,
     set: &Bits,
+    known: &mut AllEntered,
     found: &mut Found,
 ) -> Result<(), AddFault>
     requires analysis { IsRead (read analysis.now) }
@@ -95,64 +100,71 @@ fn add_all_calls(
     ensures err { IfErr result (Stopped (table found.old) (table found.new)
         (AtCallOf (read analysis.now) function (IsNamed (locks_of (table found.old) part) set.now))) }
 {
-    let numbers = set.members(alloc)?;
-    for number in numbers.as_slice() {
-        let lock = found.lock(part, *number)?;
-        add_calls(alloc, analysis, function, &lock, found)?;
+    let locks = found.named(alloc, part, set)?;
+    if locks.is_empty() {
+        return Ok(());
     }
-    Ok(())
+    add_calls(alloc, analysis, function, locks.as_slice(), known, found)
 }
 
-/// Adds what the lock at the entry of a function becomes at each of its calls.
+/// Adds what the locks at the entry of a function become at each of its calls. `known` is scratch space: what it holds at first does
+/// not count.
 fn add_calls(
     alloc: Global,
     analysis: &FlowAnalysis,
     function: u16,
-    lock: &Lock,
+    locks: &[Lock],
+    known: &mut AllEntered,
     found: &mut Found,
 ) -> Result<(), AddFault>
     requires analysis { IsRead (read analysis.now) }
     requires ready { IsReady (read analysis.now) (table found.old) }
-    ensures ok { OnOk result (Added (read analysis.now) (table found.old) (table found.new) (IsAtCall (read analysis.now) function lock.now)) }
-    ensures err { IfErr result (Stopped (table found.old) (table found.new) (IsAtCall (read analysis.now) function lock.now)) }
+    ensures ok { OnOk result (Added (read analysis.now) (table found.old) (table found.new) (AtCallOf (read analysis.now) function (IsOne locks.now))) }
+    ensures err { IfErr result (Stopped (table found.old) (table found.new) (AtCallOf (read analysis.now) function (IsOne locks.now))) }
 {
+    known.list.clear();
     if let Some(calls) = analysis.calls.get(usize::from(function)) {
         for pc in calls.as_slice() {
-            add_call(alloc, analysis, *pc, lock, found)?;
+            add_call(alloc, analysis, *pc, locks, known, found)?;
         }
     }
     Ok(())
 }
 
-/// Adds what the lock at the entry of a callee becomes at its call, in each region that has the call.
+/// Adds what the locks at the entry of a callee become at its call, in each region that has the call.
 fn add_call(
     alloc: Global,
     analysis: &FlowAnalysis,
     pc: u16,
-    lock: &Lock,
+    locks: &[Lock],
+    known: &mut AllEntered,
     found: &mut Found,
 ) -> Result<(), AddFault>
     requires analysis { IsRead (read analysis.now) }
     requires ready { IsReady (read analysis.now) (table found.old) }
     requires code { pc < length analysis.now.lowering.now.code }
-    ensures ok { OnOk result (Added (read analysis.now) (table found.old) (table found.new) (IsCalledAt (read analysis.now) pc lock.now)) }
-    ensures err { IfErr result (Stopped (table found.old) (table found.new) (IsCalledAt (read analysis.now) pc lock.now)) }
+    requires known { AreEntered (read analysis.now) (table found.old) (IsOne locks.now) known.old.list.items }
+    ensures known { OnOk result (AreEntered (read analysis.now) (table found.new) (IsOne locks.now) known.new.list.items) }
+    ensures ok { OnOk result (Added (read analysis.now) (table found.old) (table found.new) (IsCalledAtOf (read analysis.now) pc (IsOne locks.now))) }
+    ensures err { IfErr result (Stopped (table found.old) (table found.new) (IsCalledAtOf (read analysis.now) pc (IsOne locks.now))) }
 {
     if let Some(parts) = analysis.regions.get(usize::from(pc)) {
         for part in parts.as_slice() {
-            add_entered_in(alloc, analysis, *part, pc, lock, found)?;
+            add_entered_in(alloc, analysis, *part, pc, locks, known, found)?;
         }
     }
     Ok(())
 }
 
-/// Adds what the lock at the entry of a callee becomes at its call, in a region that has the call.
+/// Adds what the locks at the entry of a callee become at its call, in a region that has the call. It is found once for all calls
+/// of the region with their arguments in the same registers; `known` has what was found.
 fn add_entered_in(
     alloc: Global,
     analysis: &FlowAnalysis,
     part: u16,
     pc: u16,
-    lock: &Lock,
+    locks: &[Lock],
+    known: &mut AllEntered,
     found: &mut Found,
 ) -> Result<(), AddFault>
     requires analysis { IsRead (read analysis.now) }
@@ -160,28 +172,79 @@ fn add_entered_in(
     requires point { IsAtPoint (read analysis.now) part pc }
     requires there { part < length analysis.now.spans.now }
     requires code { pc < length analysis.now.lowering.now.code }
-    ensures ok { OnOk result (Added (read analysis.now) (table found.old) (table found.new) (At part pc (WithFronts (IsEntered (read analysis.now) part pc lock.now)))) }
-    ensures err { IfErr result (Stopped (table found.old) (table found.new) (At part pc (WithFronts (IsEntered (read analysis.now) part pc lock.now)))) }
+    requires known { AreEntered (read analysis.now) (table found.old) (IsOne locks.now) known.old.list.items }
+    ensures known { OnOk result (AreEntered (read analysis.now) (table found.new) (IsOne locks.now) known.new.list.items) }
+    ensures ok { OnOk result (Added (read analysis.now) (table found.old) (table found.new) (At part pc (IsEnteredOf (read analysis.now) part pc (IsOne locks.now)))) }
+    ensures err { IfErr result (Stopped (table found.old) (table found.new) (At part pc (IsEnteredOf (read analysis.now) part pc (IsOne locks.now)))) }
 {
-    let mut locks = entered(alloc, analysis, part, pc, lock)?;
-    add_with_prefixes(alloc, analysis, part, pc, &mut locks, found)
+    if let Some(place) = known.find(analysis.lowering, part, pc) {
+        return found.add_numbered(part, pc, &known.list[place].numbers);
+    }
+    let numbers = add_first(alloc, analysis, part, pc, locks, found)?;
+    known.put(part, pc, numbers)?;
+    Ok(())
 }
 
-/// What the lock at the entry of a callee becomes at its call; nothing where no call is.
+/// Adds what the locks at the entry of a callee become at its call, and gives the numbers that this has in the region.
+fn add_first(
+    alloc: Global,
+    analysis: &FlowAnalysis,
+    part: u16,
+    pc: u16,
+    locks: &[Lock],
+    found: &mut Found,
+) -> Result<Bits, AddFault>
+    requires analysis { IsRead (read analysis.now) }
+    requires ready { IsReady (read analysis.now) (table found.old) }
+    requires point { IsAtPoint (read analysis.now) part pc }
+    requires there { part < length analysis.now.spans.now }
+    requires code { pc < length analysis.now.lowering.now.code }
+    ensures numbers { IfOk result (IsEnteredAt (read analysis.now) (table found.new) (IsOne locks.now) part pc) }
+    ensures ok { OnOk result (Added (read analysis.now) (table found.old) (table found.new) (At part pc (IsEnteredOf (read analysis.now) part pc (IsOne locks.now)))) }
+    ensures err { IfErr result (Stopped (table found.old) (table found.new) (At part pc (IsEnteredOf (read analysis.now) part pc (IsOne locks.now)))) }
+{
+    let mut entered = entered(alloc, analysis, part, pc, locks)?;
+    let mut fronts = prefixes(alloc, &entered)?;
+    let mut numbers = Bits::new(alloc);
+    found.add_listed(part, pc, &mut entered, &mut numbers)?;
+    found.add_listed(part, pc, &mut fronts, &mut numbers)?;
+    Ok(numbers)
+}
+
+/// What the locks at the entry of a callee become at its call; nothing where no call is.
 fn entered(
     alloc: Global,
     analysis: &FlowAnalysis,
     part: u16,
     pc: u16,
-    lock: &Lock,
+    locks: &[Lock],
 ) -> Result<Vec<Lock>, AllocError>
     requires analysis { IsRead (read analysis.now) }
     requires there { part < length analysis.now.spans.now }
     requires code { pc < length analysis.now.lowering.now.code }
-    ensures { IfOk result (λ v. (m : _) → IsOne v.items m ↔ IsEntered (read analysis.now) part pc lock.now m) }
+    ensures { IfOk result (λ v. (m : _) → IsOne v.items m ↔ ((l : _) × IsOne locks.now l × IsEntered (read analysis.now) part pc l m)) }
+{
+    let mut all = Vec::new(alloc);
+    for lock in locks {
+        add_one(analysis, part, pc, lock, &mut all)?;
+    }
+    Ok(all)
+}
+
+/// Adds to a list what the lock at the entry of a callee becomes at its call.
+fn add_one(
+    analysis: &FlowAnalysis,
+    part: u16,
+    pc: u16,
+    lock: &Lock,
+    into: &mut Vec<Lock>,
+) -> Result<(), AllocError>
+    requires analysis { IsRead (read analysis.now) }
+    requires there { part < length analysis.now.spans.now }
+    requires code { pc < length analysis.now.lowering.now.code }
+    ensures { OnOk result ((m : _) → IsOne into.new.items m ↔ (IsOne into.old.items m ⊎ IsEntered (read analysis.now) part pc lock.now m)) }
 {
     let span = analysis.spans[usize::from(part)];
-    let mut locks = Vec::new(alloc);
     match analysis.lowering.code()[usize::from(pc)] {
         Instr::Call {
             first,
@@ -190,9 +253,8 @@ fn entered(
         } => {
             let callee = analysis.lowering.functions()[usize::from(function)];
             let view = view(analysis, span.function);
-            add_entered(&view, first, callee.params, lock, &mut locks)?;
-            Ok(locks)
+            add_entered(&view, first, callee.params, lock, into)
         }
-        _ => Ok(locks),
+        _ => Ok(()),
     }
 }

@@ -40,6 +40,7 @@ fn follow(
         point.1,
         &scratch.set,
         &mut scratch.passed,
+        &mut scratch.known,
         found,
     )
 }

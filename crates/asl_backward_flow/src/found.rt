@@ -3,9 +3,9 @@ ghost use Rattle.std.specs.Prelude.{◌≡◌, ◌<◌, ◌↔◌, ℕ, true, So
 ghost use Rattle.asl_code.specs.declared.lock.Lock.{Lock};
 ghost use Rattle.asl_lane_sets.specs.NumberSet.{IsIn};
 ghost use Rattle.asl_lock_expr.specs.Links.{IsOne};
-ghost use Rattle.asl_backward_flow.specs.Found.{table, locks_of, IsBlank, Has, HasPoint, HasFact, IsNamed, IsWhole, IsOver, Adds, Lists};
+ghost use Rattle.asl_backward_flow.specs.Found.{table, locks_of, IsBlank, Has, HasPoint, HasFact, IsNamed, IsWhole, IsOver, Adds, Lists, HasNumbers};
 
-use crate::region_needs::{RegionNeeds, mark, merge, number};
+use crate::region_needs::{RegionNeeds, add_number, mark, merge, number};
 use crate::span::Span;
 use crate::waiting::Waiting;
 use asl_code::Lock;
@@ -58,13 +58,14 @@ impl Found {
         })
     }
 
-    /// Adds that a region needs a lock at a pc, and lists the point if that is new.
-    pub fn add(&mut self, part: u16, pc: u16, lock: Lock) -> Result<(), AddFault>
+    /// Adds that a region needs a lock at a pc, lists the point if that is new, and gives the number of the lock.
+    pub fn add(&mut self, part: u16, pc: u16, lock: Lock) -> Result<usize, AddFault>
         requires there { part < vec_len self.old.parts }
         requires point { HasPoint (table self.old) part pc }
         requires whole { IsWhole (table self.old) }
         ensures whole { OnOk result (IsWhole (table self.new)) }
         ensures has { OnOk result (HasFact (table self.new) part pc lock) }
+        ensures number { IfOk result (λ n. slice_get (locks_of (table self.new) part) n ≡ Some lock) }
         ensures lists { OnOk result (Lists (table self.old) (table self.new)) }
         ensures adds { Adds (table self.old) (table self.new) (λ p q m. (p ≡ part) × (q ≡ pc) × (m ≡ lock)) }
         ensures over { IfErr result (IsOver (table self.new)) }
@@ -77,7 +78,7 @@ impl Found {
         let place = usize::from(pc - region.first);
         let is_new = mark(&mut region.needs, place, number)?;
         self.list.put(is_new, (part, pc))?;
-        Ok(())
+        Ok(number)
     }
 
     /// Adds that a region needs at a pc its locks of these numbers, and lists the point if one of that is new.
@@ -117,6 +118,31 @@ impl Found {
         Ok(())
     }
 
+    /// Adds that a region needs each lock of a list at a pc, and adds the numbers of the locks to a set. They are taken from the list.
+    pub fn add_listed(
+        &mut self,
+        part: u16,
+        pc: u16,
+        locks: &mut Vec<Lock>,
+        numbers: &mut Bits,
+    ) -> Result<(), AddFault>
+        requires there { part < vec_len self.old.parts }
+        requires point { HasPoint (table self.old) part pc }
+        requires whole { IsWhole (table self.old) }
+        ensures whole { OnOk result (IsWhole (table self.new)) }
+        ensures has { OnOk result ((m : Lock) → IsOne locks.old.items m → HasFact (table self.new) part pc m) }
+        ensures lists { OnOk result (Lists (table self.old) (table self.new)) }
+        ensures adds { Adds (table self.old) (table self.new) (λ p q m. (p ≡ part) × (q ≡ pc) × IsOne locks.old.items m) }
+        ensures over { IfErr result (IsOver (table self.new)) }
+        ensures numbers { OnOk result (HasNumbers (locks_of (table self.new) part) locks.old.items numbers.old numbers.new) }
+    {
+        while let Some(lock) = locks.pop() {
+            let number = self.add(part, pc, lock)?;
+            add_number(numbers, number)?;
+        }
+        Ok(())
+    }
+
     /// Makes a set that of the numbers of the locks that a region is found to need at a pc.
     pub fn needs(&self, part: u16, pc: u16, into: &mut Bits) -> Result<(), AllocError>
         requires there { part < vec_len self.now.parts }
@@ -125,6 +151,20 @@ impl Found {
     {
         let region = &self.parts[usize::from(part)];
         into.copy_from(&region.needs[usize::from(pc - region.first)])
+    }
+
+    /// The locks of these numbers of a region.
+    pub fn named(&self, alloc: Global, part: u16, numbers: &Bits) -> Result<Vec<Lock>, AllocError>
+        requires there { part < vec_len self.now.parts }
+        requires named { (n : ℕ) → IsIn numbers.now n → (m : Lock) × (slice_get (locks_of (table self.now) part) n ≡ Some m) }
+        ensures { IfOk result (λ v. (m : Lock) → IsOne v.items m ↔ IsNamed (locks_of (table self.now) part) numbers.now m) }
+    {
+        let mut locks = Vec::new(alloc);
+        let members = numbers.members(alloc)?;
+        for number in members.as_slice() {
+            locks.push(self.lock(part, *number)?)?;
+        }
+        Ok(locks)
     }
 
     /// The lock of this number of a region.

@@ -3,6 +3,7 @@
 
 mod access_needs;
 mod call_needs;
+mod entered;
 mod fault;
 mod flow;
 mod flow_analysis;

@@ -1,12 +1,12 @@
 //! Which locks of a region stay as they are over an instruction.
-ghost use Rattle.std.specs.Prelude.{◌≡◌, ◌≤◌, ◌<◌, ◌↔◌, ◌⊎◌, [], ℕ, true, false, IsTrue, length, map, replicate, ◌^◌, OnOk, IfOk, IfSome};
+ghost use Rattle.std.specs.Prelude.{◌≡◌, ◌≤◌, ◌<◌, ◌↔◌, ◌⊎◌, [], ℕ, true, false, IsTrue, length, map, replicate, OnOk, IfOk, IfSome};
 ghost use Rattle.std.specs.List.{Contains};
 ghost use Rattle.asl_lane_sets.specs.NumberSet.{IsIn};
 ghost use Rattle.asl_lock_expr.specs.LinksView.{seen as seen_by};
 ghost use Rattle.asl_lock_expr.specs.Touches.{IsClear};
 ghost use Rattle.asl_backward_flow.specs.Masked.{IsMask, AreMasks, IsMaskOf, IsMaskOver, IsLeft};
 
-use crate::region_needs::{STEP, make_room};
+use crate::region_needs::add_number;
 use asl_code::{Instr, Lock};
 use asl_lane_sets::Bits;
 use asl_lock_expr::{LinkContext, Touch, is_clear, set_by, stored_by};
@@ -102,7 +102,7 @@ fn extend(view: &LinkContext, locks: &[Lock], mask: &mut Mask) -> Result<(), All
 {
     while mask.below < locks.len() {
         if !is_left(view, mask.register, mask.cells, &locks[mask.below]) {
-            add(&mut mask.touched, mask.below)?;
+            add_number(&mut mask.touched, mask.below)?;
         }
         mask.below += 1;
     }
@@ -120,16 +120,6 @@ fn is_left(view: &LinkContext, register: Touch, cells: Touch, lock: &Lock) -> bo
         return is_clear(view, cells, lock);
     }
     is_clear(view, register, lock) && is_clear(view, cells, lock)
-}
-
-/// Adds a number, for which capacity is reserved.
-fn add(set: &mut Bits, number: usize) -> Result<(), AllocError>
-    requires { number < 2 ^ 63 }
-    ensures { OnOk result ((k : ℕ) → IsIn set.new k ↔ (IsIn set.old k ⊎ (k ≡ number))) }
-{
-    make_room(set, (number / STEP + 1) * STEP)?;
-    set.add(number);
-    Ok(())
 }
 
 /// Lists the numbers of a set that are those of a mask, and tells whether there are any. Then it makes a set that of the others.

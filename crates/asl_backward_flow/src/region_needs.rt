@@ -1,5 +1,5 @@
 //! A region with the locks that it needs, and the points at which it needs them.
-ghost use Rattle.std.specs.Prelude.{◌≡◌, ◌<◌, ◌≤◌, ◌↔◌, ◌⊎◌, ℕ, Some, [], length, replicate, slice_get, IsTrue, IfOk, OnOk, OnErr};
+ghost use Rattle.std.specs.Prelude.{◌≡◌, ◌<◌, ◌≤◌, ◌↔◌, ◌⊎◌, ◌^◌, ℕ, Some, [], length, replicate, slice_get, IsTrue, IfOk, OnOk, OnErr};
 ghost use Rattle.std.specs.List.{Contains};
 ghost use Rattle.asl_code.specs.declared.lock.Lock.{Lock};
 ghost use Rattle.asl_lane_sets.specs.NumberSet.{IsIn};
@@ -18,7 +18,7 @@ use indexmap::IndexSet;
 use std::alloc::{AllocError, Global};
 
 /// By how many numbers a set grows at least, where numbers come one by one.
-pub const STEP: usize = 256;
+const STEP: usize = 256;
 
 /// So many numbers stay as they are.
 const FEW: usize = 16;
@@ -85,6 +85,16 @@ pub fn make_room(set: &mut Bits, len: usize) -> Result<(), AllocError>
     if set.len() < len {
         set.grow(len)?;
     }
+    Ok(())
+}
+
+/// Adds a number to a set, which is made long enough.
+pub fn add_number(set: &mut Bits, number: usize) -> Result<(), AllocError>
+    requires { number < 2 ^ 63 }
+    ensures { OnOk result ((k : ℕ) → IsIn set.new k ↔ (IsIn set.old k ⊎ (k ≡ number))) }
+{
+    make_room(set, (number / STEP + 1) * STEP)?;
+    set.add(number);
     Ok(())
 }
 

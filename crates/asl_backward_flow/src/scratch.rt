@@ -1,6 +1,7 @@
 //! What the search for needed locks uses again at each point, so that nothing is made anew there.
 ghost use Rattle.std.specs.Prelude.{◌≡◌, IfOk, map, replicate, []};
 
+use crate::entered::AllEntered;
 use crate::masks::{Mask, no_masks};
 use crate::region_needs::empty_sets;
 use asl_code::Lock;
@@ -24,6 +25,8 @@ pub struct Scratch {
     pub links: Vec<Lock>,
     /// For each region, the numbers of the locks at its entry of which each call has what they become there.
     pub passed: Vec<Bits>,
+    /// What those that are passed on become at the calls.
+    pub known: AllEntered,
 }
 
 /// Nothing found yet, of so many regions.
@@ -39,5 +42,6 @@ pub fn no_scratch(alloc: Global, count: usize) -> Result<Scratch, AllocError>
         changed: Vec::new(alloc),
         links: Vec::new(alloc),
         passed: empty_sets(alloc, count)?,
+        known: AllEntered::new(alloc, count)?,
     })
 }

@@ -1,27 +1,27 @@
-use Rattle.std.proofs.Common.{rules, ◌↔◌, ℕ, List, sym, subst}
-use Rattle.std.specs.List.{Contains}
-use Rattle.std.proofs.lemmas.Option.{slice_get-get_or}
-use Rattle.asl_lane_sets.specs.NumberSet.{IsIn}
-use Rattle.asl_backward_flow.specs.Found.{table}
-use Rattle.asl_backward_flow.specs.Follows.{read, IsAtCall}
-use Rattle.asl_backward_flow.proofs.Linking.{named_now, lock_more, lock_stopped, lock_refused, lock_end}
+use Rattle.std.proofs.Common.{◌≡◌, ◌↔◌, List, vec_len, length, sym, subst, ◌∙◌, arith}
+use Rattle.std.proofs.lemmas.Bool.{eqb-true}
+use Rattle.asl_code.specs.declared.lock.Lock.{Lock}
+use Rattle.asl_lock_expr.specs.Links.{IsOne}
+use Rattle.asl_backward_flow.specs.Found.{table, locks_of, IsNamed}
+use Rattle.asl_backward_flow.specs.Follows.{read}
+use Rattle.asl_backward_flow.proofs.Adding.{added_none}
+use Rattle.asl_backward_flow.proofs.Entering.{no_one, calls_ok, calls_err}
 use Rattle.asl_backward_flow.proofs.call_needs.add_all_calls.Goals as goal
 
-pub lock-requires-clause-named : goal.lock-requires-clause-named
-lock-requires-clause-named c = named_now (read c.args.analysis.now) (IsAtCall (read c.args.analysis.now) c.args.function) c.args.part (IsIn c.args.set.now) (table c.args.found.now) c.requires.named c.as_slice-number-items.result.now (subst (λ (l : List ℕ). (k : ℕ) → Contains l k ↔ IsIn c.args.set.now k) (sym c.as_slice-number-items.ensures.value) c.in_ok-numbers.ensures.numbers) (table c.loop-number.found) c.loop-number.number-index c.loop-number.invariant _ (slice_get-get_or c.as_slice-number-items.result.now c.loop-number.number-index 0 c.loop-number-test.true)
-
-pub loop-number-preserved : goal.loop-number-preserved
-loop-number-preserved c = lock_more (read c.args.analysis.now) (IsAtCall (read c.args.analysis.now) c.args.function) c.args.part (IsIn c.args.set.now) (table c.args.found.now) c.requires.named c.as_slice-number-items.result.now (subst (λ (l : List ℕ). (k : ℕ) → Contains l k ↔ IsIn c.args.set.now k) (sym c.as_slice-number-items.ensures.value) c.in_ok-numbers.ensures.numbers) (table c.loop-number.found) c.loop-number.number-index c.loop-number.invariant _ (slice_get-get_or c.as_slice-number-items.result.now c.loop-number.number-index 0 c.loop-number-test.true) c.in_ok-lock.lock c.in_ok-lock.ensures (table c.add_calls.new.found) c.in_ok-add_calls.ensures.ok
-
-pub returns-in_err-lock-clause-err : goal.returns-in_err-lock-clause-err
-returns-in_err-lock-clause-err c =
-    let stopped = lock_refused (read c.args.analysis.now) (IsAtCall (read c.args.analysis.now) c.args.function) c.args.part (IsIn c.args.set.now) (table c.args.found.now) c.requires.named c.as_slice-number-items.result.now (subst (λ (l : List ℕ). (k : ℕ) → Contains l k ↔ IsIn c.args.set.now k) (sym c.as_slice-number-items.ensures.value) c.in_ok-numbers.ensures.numbers) (table c.loop-number.found) c.loop-number.number-index c.loop-number.invariant in
-    search (rules, stopped)
-
-pub returns-in_err-add_calls-clause-err : goal.returns-in_err-add_calls-clause-err
-returns-in_err-add_calls-clause-err c =
-    let stopped = (lock_stopped (read c.args.analysis.now) (IsAtCall (read c.args.analysis.now) c.args.function) c.args.part (IsIn c.args.set.now) (table c.args.found.now) c.requires.named c.as_slice-number-items.result.now (subst (λ (l : List ℕ). (k : ℕ) → Contains l k ↔ IsIn c.args.set.now k) (sym c.as_slice-number-items.ensures.value) c.in_ok-numbers.ensures.numbers) (table c.loop-number.found) c.loop-number.number-index c.loop-number.invariant _ (slice_get-get_or c.as_slice-number-items.result.now c.loop-number.number-index 0 c.loop-number-test.true) c.in_ok-lock.lock c.in_ok-lock.ensures (table c.add_calls.new.found) _ c.in_err-add_calls.ensures.err) in
-    search (rules, stopped)
+pub returns-then-is_empty-clause-ok : goal.returns-then-is_empty-clause-ok
+returns-then-is_empty-clause-ok c =
+    let none = eqb-true (vec_len c.in_ok-locks.locks) 0 (sym c.is_empty.ensures ∙ c.if-is_empty.true) in
+    let count : length c.in_ok-locks.locks.items ≡ 0 = omega (arith, none, c.in_ok-locks.locks.ok.0) in
+    added_none (read c.args.analysis.now) (table c.args.found.now) _ c.requires.ready (λ p q m h. no_one c.in_ok-locks.locks.items count h.0 ((c.in_ok-locks.ensures h.0).1 h.1))
 
 pub returns-clause-ok : goal.returns-clause-ok
-returns-clause-ok c = (lock_end (read c.args.analysis.now) (IsAtCall (read c.args.analysis.now) c.args.function) c.args.part (IsIn c.args.set.now) (table c.args.found.now) c.requires.named c.as_slice-number-items.result.now (subst (λ (l : List ℕ). (k : ℕ) → Contains l k ↔ IsIn c.args.set.now k) (sym c.as_slice-number-items.ensures.value) c.in_ok-numbers.ensures.numbers) (table c.loop-number.found) c.loop-number.number-index c.loop-number.invariant c.loop-number-test.false)
+returns-clause-ok c =
+    let such = IsNamed (locks_of (table c.args.found.now) c.args.part) c.args.set.now in
+    calls_ok (read c.args.analysis.now) (table c.args.found.now) (table c.add_calls.new.found) c.args.function (IsOne c.as_slice.result.now) such
+    (subst (λ (l : List Lock). (m : Lock) → IsOne l m ↔ such m) (sym c.as_slice.ensures.value) c.in_ok-locks.ensures) c.add_calls.result c.add_calls.ensures.ok
+
+pub returns-clause-err : goal.returns-clause-err
+returns-clause-err c =
+    let such = IsNamed (locks_of (table c.args.found.now) c.args.part) c.args.set.now in
+    calls_err (read c.args.analysis.now) (table c.args.found.now) (table c.add_calls.new.found) c.args.function (IsOne c.as_slice.result.now) such
+    (subst (λ (l : List Lock). (m : Lock) → IsOne l m ↔ such m) (sym c.as_slice.ensures.value) c.in_ok-locks.ensures) c.add_calls.result c.add_calls.ensures.err

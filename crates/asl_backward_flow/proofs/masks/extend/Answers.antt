@@ -5,7 +5,7 @@ use Rattle.asl_lock_expr.specs.LinksView.{seen}
 use Rattle.asl_backward_flow.specs.declared.masks.Mask.{Mask}
 use Rattle.asl_backward_flow.specs.Masked.{IsMask}
 use Rattle.asl_backward_flow.proofs.Masking.{mask_more}
-use Rattle.asl_backward_flow.proofs.masks.extend.Goals.{then-not-is_left+in_ok-add, else-not-is_left}
+use Rattle.asl_backward_flow.proofs.masks.extend.Goals.{then-not-is_left+in_ok-add_number, else-not-is_left}
 use Rattle.asl_backward_flow.proofs.masks.extend.Goals as goal
 
 -- the mask of one lock more
@@ -18,9 +18,9 @@ loop-mask-preserved c =
     let at : slice_get c.args.locks.now c.loop-mask.mask.below ≡ Some lock = slice_get-get_or c.args.locks.now c.loop-mask.mask.below lock c.loop-mask-test.true ∙ ap Some (sym c.index-locks-mask.is) in
     let both : IsMask (seen c.args.view.now) c.args.locks.now (next c.if-not-is_left.mask) × (c.if-not-is_left.mask.register ≡ c.args.mask.now.register) × (c.if-not-is_left.mask.cells ≡ c.args.mask.now.cells) =
     elim c.if-not-is_left.branch [
-      | then-not-is_left+in_ok-add w ↦
+      | then-not-is_left+in_ok-add_number w ↦
           subst (λ (x : Mask). IsMask (seen c.args.view.now) c.args.locks.now (next x) × (x.register ≡ c.args.mask.now.register) × (x.cells ≡ c.args.mask.now.cells)) (sym w.mask-is)
-          (mask_more (seen c.args.view.now) c.args.locks.now c.loop-mask.mask w.add.new.set lock at (λ k h. (w.in_ok-add.ensures k).1 (inl h)) (inl ((w.in_ok-add.ensures c.loop-mask.mask.below).1 (inr refl))) c.loop-mask.invariant.mask, c.loop-mask.invariant.register, c.loop-mask.invariant.cells)
+          (mask_more (seen c.args.view.now) c.args.locks.now c.loop-mask.mask w.add_number.new.set lock at (λ k h. (w.in_ok-add_number.ensures k).1 (inl h)) (inl ((w.in_ok-add_number.ensures c.loop-mask.mask.below).1 (inr refl))) c.loop-mask.invariant.mask, c.loop-mask.invariant.register, c.loop-mask.invariant.cells)
       | else-not-is_left w ↦
           let clear : c.is_left.result ≡ true = search (rules, w.if-not-is_left.false) in
           subst (λ (x : Mask). IsMask (seen c.args.view.now) c.args.locks.now (next x) × (x.register ≡ c.args.mask.now.register) × (x.cells ≡ c.args.mask.now.cells)) (sym w.mask-is)

@@ -1,6 +1,6 @@
 use Rattle.std.proofs.Common.{◌≡◌, ◌∙◌, rules, refl, arith, ap, length, slice_get}
 use Rattle.asl_backward_flow.proofs.Tables.{sets_before, first_before}
-use Rattle.asl_backward_flow.proofs.Additions.{part_adds, part_over, mark_adds, mark_has, mark_whole, mark_lists}
+use Rattle.asl_backward_flow.proofs.Additions.{part_adds, part_locks, part_over, mark_adds, mark_has, mark_whole, mark_lists}
 use Rattle.asl_backward_flow.proofs.found.Found.add.Goals as goal
 
 pub returns-in_err-number-clause-adds : goal.returns-in_err-number-clause-adds
@@ -91,3 +91,12 @@ returns-clause-lists c =
     refl refl (λ m. m ≡ c.args.lock) c.in_ok-number.ensures.numbers c.from-place.result (λ n. n ≡ c.in_ok-number.number) c.in_ok-is_new.is_new c.in_ok-is_new.ensures.marked c.args.pc
     (let point = c.requires.point.1 in let first = first_before c.args.self.now.parts.items c.args.part c.from.result c.index_mut-region.result.now c.args.self.now.list (search (rules, c.from.ensures)) (omega (arith, c.requires.there)) c.index_mut-region.ensures.value in let place = c.from-place.ensures in omega (arith, point, first, place))
     (λ n e. (c.args.lock, ap (slice_get c.number.new.locks.keys) e ∙ c.in_ok-number.ensures.stored, refl)) c.requires.whole c.in_ok-put.ensures.ok
+
+pub returns-clause-number : goal.returns-clause-number
+returns-clause-number c =
+    ap (λ l. slice_get l c.in_ok-number.number)
+    (part_locks c.args.self.now.parts.items c.args.part c.from.result c.index_mut-region.result.now
+    (record { region = c.index_mut-region.result.now.region; first = c.index_mut-region.result.now.first; locks = c.number.new.locks; needs = c.mark.new.sets })
+    c.args.self.now.list c.put.new.self (search (rules, c.from.ensures)) (omega (arith, c.requires.there)) c.index_mut-region.ensures.value
+    refl refl (λ m. m ≡ c.args.lock) c.in_ok-number.ensures.numbers)
+    ∙ c.in_ok-number.ensures.stored
