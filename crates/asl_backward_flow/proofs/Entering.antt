@@ -1,5 +1,5 @@
 -- What locks at the entry of a function become at its calls, as numbers of a region.
-use Rattle.std.proofs.Common.{◌≡◌, ◌↔◌, ◌⊎◌, ⊎_elim, ℕ, zero, suc, ◌+◌, ◌<◌, ◌≤◌, ◌++◌, Bool, List, [], ◌∷◌, Some, Result, Ok, Err, OnOk, IfErr, length, slice_get, inl, inr, refl, ap, sym, subst, ◌∙◌, arith}
+use Rattle.std.proofs.Common.{◌≡◌, ◌↔◌, ◌⊎◌, ⊎_elim, ℕ, zero, suc, ◌<◌, ◌≤◌, ◌++◌, Bool, List, [], ◌∷◌, Some, Result, Ok, Err, OnOk, IfErr, length, slice_get, inl, inr, refl, ap, sym, subst, ◌∙◌, arith}
 use Rattle.std.specs.List.{flat_map}
 use Rattle.std.proofs.lemmas.Option.{slice_get_within}
 use Rattle.asl_code.specs.declared.instr.Instr.{Instr}
@@ -11,7 +11,7 @@ use Rattle.asl_lock_expr.proofs.Ones.{one_left, one_right, one_either}
 use Rattle.asl_backward_flow.specs.declared.entered.Entered.{Entered}
 use Rattle.asl_backward_flow.specs.declared.found.AddFault.{AddFault}
 use Rattle.asl_backward_flow.specs.Found.{Table, HasFact, HasPoint, IsOver, IsWhole, IsNamed, Grows, Adds, AddsSome, Lists, HasNumbers, locks_of}
-use Rattle.asl_backward_flow.specs.Follows.{Read, IsAtPoint, IsEntered, IsCalledAt, IsAtCall, AtCallOf, WithFronts, At, IsReady, Added, Stopped}
+use Rattle.asl_backward_flow.specs.Follows.{Read, IsEntered, AtCallOf, WithFronts, At, IsReady, Added, Stopped}
 use Rattle.asl_backward_flow.specs.Graph.{IsCall}
 use Rattle.asl_backward_flow.specs.Entering.{IsEnteredOf, IsCalledAtOf, IsSameCall, IsFoundAt, IsEnteredAt, AreEntered}
 use Rattle.asl_backward_flow.specs.Parts.{ListsBelow}

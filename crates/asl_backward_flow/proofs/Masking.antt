@@ -15,7 +15,7 @@ use Rattle.asl_backward_flow.specs.declared.masks.Mask.{Mask}
 use Rattle.asl_backward_flow.specs.declared.span.Span.{Span}
 use Rattle.asl_backward_flow.specs.Found.{Table, Grows, locks_of}
 use Rattle.asl_backward_flow.specs.Follows.{Read, seen}
-use Rattle.asl_backward_flow.specs.Masked.{IsLeft, IsMask, AreMasks, IsMaskOf, IsMaskOver, AreAllMasks}
+use Rattle.asl_backward_flow.specs.Masked.{IsMask, AreMasks, IsMaskOf, LeavesClear, LeavesStaying, AreAllMasks}
 use Rattle.asl_backward_flow.proofs.Sets.{some_same, at_push, at_last}
 use Rattle.asl_backward_flow.proofs.SpanLaws.{below_or_at}
 
@@ -27,48 +27,48 @@ at_set (z ∷ xs) zero y (suc k) x e = inl e
 at_set (z ∷ xs) (suc p) y zero x e = inl e
 at_set (z ∷ xs) (suc p) y (suc k) x e = ⊎_elim (λ o. inl o) (λ o. inr (ap suc o.0, o.1)) (at_set xs p y k x e)
 
-module _ (v : LinkContext) (locks : List Lock) where
-  pub masks_push : (masks : List Mask) (x : Mask) → x.below ≡ 0 → AreMasks v locks masks → AreMasks v locks (masks ++ x ∷ [])
-  masks_push masks x none so k y e =
-      ⊎_elim (λ o. so k y o) (λ is. subst (IsMask v locks) (sym is) (λ n lt. absurd (omega (arith, none, lt)))) (at_push masks x k y e)
-
-  pub mask_there : (masks : List Mask) (register cells : Touch) (x : Mask) → x.register ≡ register → x.cells ≡ cells → IsMaskOf register cells (masks ++ x ∷ []) (length masks)
-  mask_there masks register cells x is also = (x, at_last masks x, is, also)
-
-  pub masks_put : (masks : List Mask) (place : ℕ) (x : Mask) → AreMasks v locks masks → IsMask v locks x → AreMasks v locks (slice_set masks place x)
-  masks_put masks place x so is k y e = ⊎_elim (λ o. so k y o) (λ h. subst (IsMask v locks) (sym h.1) is) (at_set masks place x k y e)
-
-  -- a lock that is none of a mask of all is not concerned
-  pub mask_clear : (x : Mask) → IsMask v locks x → length locks ≤ x.below → (n : ℕ) (m : Lock) → ¬ IsIn x.touched n → slice_get locks n ≡ Some m → IsLeft v x.register x.cells m
-  mask_clear x so all n m not at =
-      let lt = slice_get_within locks n m at in
-      let name = so n (omega (arith, lt, all)) in
-      subst (IsLeft v x.register x.cells) (some_same (sym name.1 ∙ at)) (⊎_elim (λ h. absurd (not h)) (λ c. c) name.2)
-
-  -- so its lock stays over an instruction that touches just this
-  pub mask_over : (masks : List Mask) (place : ℕ) (x : Mask) (i : Instr) → slice_get masks place ≡ Some x → x.register ≡ set_by i → x.cells ≡ stored_by i → IsMask v locks x → length locks ≤ x.below → IsMaskOver v i locks masks place
-  mask_over masks place x i at is also so all = (
-    x,
-    at,
-    λ n m not stands.
-        let left = mask_clear x so all n m not stands in
-        clear_stays v i m (subst (λ t. IsClear v t m) is left.0) (subst (λ t. IsClear v t m) also left.1),
-  )
-
-  -- one lock more
-  pub mask_more : (x : Mask) (touched : List Bool) (m : Lock) → slice_get locks x.below ≡ Some m → ((k : ℕ) → IsIn x.touched k → IsIn touched k) → IsIn touched x.below ⊎ IsLeft v x.register x.cells m
-      → IsMask v locks x → IsMask v locks (record { register = x.register; cells = x.cells; below = x.below + 1; touched = touched })
-  mask_more x touched m at kept here so n lt =
-      ⊎_elim
-      (λ below. let name = so n below in (name.0, name.1, ⊎_elim (λ h. inl (kept n h)) (λ c. inr c) name.2))
-      (λ (e : n ≡ x.below). (m, ap (slice_get locks) e ∙ at, ⊎_elim (λ h. inl (subst (IsIn touched) (sym e) h)) (λ c. inr c) here))
-      (below_or_at n x.below lt)
-
 -- a lock that something does not concern, nothing does not concern either
 pub clear_of_nothing : (v : LinkContext) (t : Touch) (m : Lock) → IsClear v t m → IsClear v touch.Nothing m
 clear_of_nothing v t (lock.Root effect) h = tt
 clear_of_nothing v t (lock.Class class effect) h = tt
 clear_of_nothing v t (lock.Expr e effect) h = (h.0, refl)
+
+module _ (v : LinkContext) (locks : List Lock) where
+  pub masks_push : (masks : List Mask) (x : Mask) → x.below ≡ 0 → AreMasks v locks masks → AreMasks v locks (masks ++ x ∷ [])
+  masks_push masks x none so k y e =
+      ⊎_elim (λ o. so k y o) (λ is. subst (IsMask v locks) (sym is) (λ n lt. absurd (omega (arith, none, lt)))) (at_push masks x k y e)
+
+  pub mask_there : (masks : List Mask) (touch : Touch) (x : Mask) → x.touch ≡ touch → IsMaskOf touch (masks ++ x ∷ []) (length masks)
+  mask_there masks touch x is = (x, at_last masks x, is)
+
+  pub masks_put : (masks : List Mask) (place : ℕ) (x : Mask) → AreMasks v locks masks → IsMask v locks x → AreMasks v locks (slice_set masks place x)
+  masks_put masks place x so is k y e = ⊎_elim (λ o. so k y o) (λ h. subst (IsMask v locks) (sym h.1) is) (at_set masks place x k y e)
+
+  -- a lock that is none of a mask of all is not concerned
+  pub mask_clear : (x : Mask) (touch : Touch) → x.touch ≡ touch → IsMask v locks x → length locks ≤ x.below → LeavesClear v touch locks x.touched
+  mask_clear x touch same so all n m not at =
+      let lt = slice_get_within locks n m at in
+      let name = so n (omega (arith, lt, all)) in
+      subst (λ t. IsClear v t m) same (subst (IsClear v x.touch) (some_same (sym name.1 ∙ at)) (⊎_elim (λ h. absurd (not h)) (λ c. c) name.2))
+
+  -- locks that neither touch of an instruction concerns stay
+  pub both_clear : (i : Instr) (register cells : Touch) (touched : List Bool) → register ≡ set_by i → cells ≡ stored_by i → LeavesClear v register locks touched → LeavesClear v cells locks touched → LeavesStaying v i locks touched
+  both_clear i register cells touched is also one two n m not at = clear_stays v i m (subst (λ t. IsClear v t m) is (one n m not at)) (subst (λ t. IsClear v t m) also (two n m not at))
+
+  pub nothing_clear : (some none : Touch) (touched : List Bool) → none ≡ touch.Nothing → LeavesClear v some locks touched → LeavesClear v none locks touched
+  nothing_clear t none touched is so n m not at = subst (λ x. IsClear v x m) (sym is) (clear_of_nothing v t m (so n m not at))
+
+  pub more_clear : (touch : Touch) (touched more : List Bool) → ((n : ℕ) → IsIn touched n → IsIn more n) → LeavesClear v touch locks touched → LeavesClear v touch locks more
+  more_clear t touched more kept so n m not at = so n m (λ h. not (kept n h)) at
+
+  -- one lock more
+  pub mask_more : (x : Mask) (touched : List Bool) (m : Lock) → slice_get locks x.below ≡ Some m → ((k : ℕ) → IsIn x.touched k → IsIn touched k) → IsIn touched x.below ⊎ IsClear v x.touch m
+      → IsMask v locks (record { touch = x.touch; below = x.below; touched = x.touched }) → IsMask v locks (record { touch = x.touch; below = x.below + 1; touched = touched })
+  mask_more x touched m at kept here so n lt =
+      ⊎_elim
+      (λ below. let name = so n below in (name.0, name.1, ⊎_elim (λ h. inl (kept n h)) (λ c. inr c) name.2))
+      (λ (e : n ≡ x.below). (m, ap (slice_get locks) e ∙ at, ⊎_elim (λ h. inl (subst (IsIn touched) (sym e) h)) (λ c. inr c) here))
+      (below_or_at n x.below lt)
 
 -- what was put at a place of a list
 pub put_here : {A : Type 0} (xs : List A) (p : ℕ) (y : A) → p < length xs → slice_get (slice_set xs p y) p ≡ Some y

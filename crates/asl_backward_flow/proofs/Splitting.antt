@@ -1,8 +1,6 @@
 -- The locks of a set, split by a mask into those that stay over an instruction and those that change.
-use Rattle.std.proofs.Common.{◌≡◌, ◌↔◌, ⊎_elim, ℕ, ◌<◌, Bool, List, [], Some, Vec, Global, Result, Ok, Err, IfOk, IfErr, OnOk, length, map, slice_get, refl, ap, sym, subst, ◌∙◌, arith}
+use Rattle.std.proofs.Common.{◌≡◌, ◌↔◌, ⊎_elim, ℕ, Bool, List, [], Some, Result, Ok, Err, IfOk, IfErr, OnOk, slice_get, refl, subst, arith}
 use Rattle.std.specs.List.{Contains}
-use Rattle.std.proofs.lemmas.List.{length-map}
-use Rattle.std.proofs.lemmas.Option.{slice_get_within}
 use Rattle.asl_code.specs.declared.instr.Instr.{Instr}
 use Rattle.asl_code.specs.declared.lock.Lock.{Lock}
 use Rattle.asl_lane_sets.specs.NumberSet.{IsIn}
@@ -13,32 +11,10 @@ use Rattle.asl_backward_flow.specs.declared.span.Span.{Span}
 use Rattle.asl_backward_flow.specs.declared.found.AddFault.{AddFault}
 use Rattle.asl_backward_flow.specs.Found.{Table, HasFact, IsOver, IsWhole, IsNamed, Adds, Lists, locks_of}
 use Rattle.asl_backward_flow.specs.Follows.{Read, seen, IsReady, IsChosen, IsLinkedOf, StaysAt, Splits, At, Added, Stopped}
-use Rattle.asl_backward_flow.specs.Masked.{IsMaskAt, AreAllMasks}
+use Rattle.asl_backward_flow.specs.Masked.{AreAllMasks}
 use Rattle.asl_backward_flow.proofs.Linking.{linked_all, all_stay, stay_stopped}
 use Rattle.asl_backward_flow.proofs.Marks.{is_in}
 use Rattle.asl_backward_flow.proofs.Masking.{masks_grow}
-use Rattle.asl_backward_flow.proofs.SetNeeds.{mapped_at}
-use Rattle.asl_backward_flow.proofs.Sets.{some_same}
-
-abbrev pub items_of : Vec Mask Global → List Mask
-items_of v = v.items
-
--- the mask at a place, read from the lists that have it
-module _ (r : Read) (t : Table) (part pc : ℕ) (all : List (Vec Mask Global)) (place : ℕ) (at : IsMaskAt r t part pc (map items_of all) place) where
-  pub row_there : part < length all
-  row_there = omega (arith, slice_get_within (map items_of all) part at.0 at.2, length-map all items_of)
-
-  module _ (row : Vec Mask Global) (there : slice_get all part ≡ Some row) where
-    row_is : row.items ≡ at.0
-    row_is = some_same (sym (mapped_at items_of all part row there) ∙ at.2)
-
-    pub mask_there : place < length row.items
-    mask_there = let lt = slice_get_within at.0 place at.1 at.3 in let same = ap length row_is in omega (arith, lt, same)
-
-    pub mask_leaves : (x : Mask) → slice_get row.items place ≡ Some x → (n : ℕ) (m : Lock) → ¬ IsIn x.touched n → slice_get (locks_of t part) n ≡ Some m → StaysAt r part pc m
-    mask_leaves x stands n m not named =
-        let is : x ≡ at.1 = some_same (sym stands ∙ ap (λ (l : List Mask). slice_get l place) row_is ∙ at.3) in
-        at.4 n m (subst (λ (y : Mask). ¬ IsIn y.touched n) is not) named
 
 -- what holds of a result by two facts of it
 pub ok_both : {A E : Type 0} (r : Result A E) (P Q W : A → Type 0) → ((v : A) → P v → Q v → W v) → IfOk r P → IfOk r Q → IfOk r W

@@ -23,9 +23,9 @@ fn follow(
     requires analysis { IsRead (read analysis.now) }
     requires there { (n : _) × Has (table found.old) point.0 point.1 n }
     requires followed { IsFollowed (read analysis.now) (table found.old) (point ∷ (table found.old).list) }
-    requires masks { AreAllMasks (read analysis.now) (table found.old) (map (λ v. v.items) scratch.old.masks.items) }
+    requires masks { AreAllMasks (read analysis.now) (table found.old) (map (λ v. v.list.items) scratch.old.masks.items) }
     requires passed { ArePassed (read analysis.now) (table found.old) scratch.old.passed.items }
-    ensures masks { OnOk result (AreAllMasks (read analysis.now) (table found.new) (map (λ v. v.items) scratch.new.masks.items)) }
+    ensures masks { OnOk result (AreAllMasks (read analysis.now) (table found.new) (map (λ v. v.list.items) scratch.new.masks.items)) }
     ensures passed { OnOk result (ArePassed (read analysis.now) (table found.new) scratch.new.passed.items) }
     ensures ok { OnOk result (IsFollowed (read analysis.now) (table found.new) (table found.new).list) }
     ensures less { OnOk result (left (table found.new) ≤ left (table found.old)) }

@@ -3,16 +3,17 @@ ghost use Rattle.std.specs.Prelude.{◌≡◌, ◌<◌, ◌+◌, ℕ, true, fals
 ghost use Rattle.std.specs.List.{Contains};
 ghost use Rattle.asl_backward_flow.specs.Graph.{IsEdge};
 ghost use Rattle.asl_backward_flow.specs.Found.{table, locks_of, IsNamed, IsListed};
-ghost use Rattle.asl_backward_flow.specs.Masked.{AreAllMasks, IsMaskAt};
+ghost use Rattle.asl_backward_flow.specs.Masked.{AreAllMasks, LeavesStayingAt};
 ghost use Rattle.asl_backward_flow.specs.Follows.{read, IsRead, IsReady, IsAtPoint, IsLinkedAlone, IsLinkedOf, WithFronts, At, IsBack, AreBefore, IsChosen, Splits, Added, Stopped};
 
 use crate::access_needs::{add_with_prefixes, view};
 use crate::flow_analysis::FlowAnalysis;
 use crate::found::{AddFault, Found};
 use crate::graph::goes_on;
-use crate::masks::{Mask, mask_over, split};
+use crate::masks::{Masks, find_touched, split};
 use crate::scratch::Scratch;
 use asl_code::Lock;
+use asl_lane_sets::Bits;
 use asl_lock_expr::add_links;
 use std::alloc::{AllocError, Global};
 
@@ -31,10 +32,10 @@ pub fn add_back(
     requires there { part < length analysis.now.spans.now }
     requires code { pc < length analysis.now.lowering.now.code }
     requires chosen { IsChosen (locks_of (table found.old) part) scratch.old.set }
-    requires masks { AreAllMasks (read analysis.now) (table found.old) (map (λ v. v.items) scratch.old.masks.items) }
+    requires masks { AreAllMasks (read analysis.now) (table found.old) (map (λ v. v.list.items) scratch.old.masks.items) }
     ensures set { scratch.new.set ≡ scratch.old.set }
     ensures passed { scratch.new.passed ≡ scratch.old.passed }
-    ensures masks { OnOk result (AreAllMasks (read analysis.now) (table found.new) (map (λ v. v.items) scratch.new.masks.items)) }
+    ensures masks { OnOk result (AreAllMasks (read analysis.now) (table found.new) (map (λ v. v.list.items) scratch.new.masks.items)) }
     ensures ok { OnOk result (Added (read analysis.now) (table found.old) (table found.new)
         (IsBack (read analysis.now) part pc (IsNamed (locks_of (table found.old) part) scratch.old.set))) }
     ensures err { IfErr result (Stopped (table found.old) (table found.new)
@@ -101,11 +102,11 @@ fn add_linked(
     requires there { part < length analysis.now.spans.now }
     requires code { pc < length analysis.now.lowering.now.code }
     requires chosen { IsChosen (locks_of (table found.old) part) scratch.old.set }
-    requires masks { AreAllMasks (read analysis.now) (table found.old) (map (λ v. v.items) scratch.old.masks.items) }
+    requires masks { AreAllMasks (read analysis.now) (table found.old) (map (λ v. v.list.items) scratch.old.masks.items) }
     ensures set { scratch.new.set ≡ scratch.old.set }
     ensures passed { scratch.new.passed ≡ scratch.old.passed }
     ensures pcs { scratch.new.pcs ≡ scratch.old.pcs }
-    ensures masks { OnOk result (AreAllMasks (read analysis.now) (table found.new) (map (λ v. v.items) scratch.new.masks.items)) }
+    ensures masks { OnOk result (AreAllMasks (read analysis.now) (table found.new) (map (λ v. v.list.items) scratch.new.masks.items)) }
     ensures ok { OnOk result (Added (read analysis.now) (table found.old) (table found.new)
         (At part pc (IsLinkedOf (read analysis.now) part pc (IsNamed (locks_of (table found.old) part) scratch.old.set)))) }
     ensures err { IfErr result (Stopped (table found.old) (table found.new)
@@ -139,45 +140,60 @@ fn split_over(
     requires ready { IsReady (read analysis.now) (table found.now) }
     requires there { part < length analysis.now.spans.now }
     requires code { pc < length analysis.now.lowering.now.code }
-    requires masks { AreAllMasks (read analysis.now) (table found.now) (map (λ v. v.items) scratch.old.masks.items) }
+    requires masks { AreAllMasks (read analysis.now) (table found.now) (map (λ v. v.list.items) scratch.old.masks.items) }
     ensures set { scratch.new.set ≡ scratch.old.set }
     ensures passed { scratch.new.passed ≡ scratch.old.passed }
     ensures pcs { scratch.new.pcs ≡ scratch.old.pcs }
-    ensures masks { OnOk result (AreAllMasks (read analysis.now) (table found.now) (map (λ v. v.items) scratch.new.masks.items)) }
+    ensures masks { OnOk result (AreAllMasks (read analysis.now) (table found.now) (map (λ v. v.list.items) scratch.new.masks.items)) }
     ensures none { IfOk result (λ some. some ≡ false → Splits (read analysis.now) (table found.now) part pc scratch.old.set scratch.old.set []) }
     ensures some { IfOk result (λ some. some ≡ true → Splits (read analysis.now) (table found.now) part pc scratch.old.set scratch.new.stay scratch.new.changed.items) }
 {
-    let place = mask_at(alloc, analysis, part, pc, &mut scratch.masks, found)?;
-    let mask = &scratch.masks[usize::from(part)][place];
+    touched_at(
+        alloc,
+        analysis,
+        part,
+        pc,
+        &mut scratch.masks,
+        &mut scratch.touched,
+        found,
+    )?;
     split(
         &scratch.set,
-        &mask.touched,
+        &scratch.touched,
         &mut scratch.stay,
         &mut scratch.changed,
     )
 }
 
-/// The place of the mask of the instruction among those of its region.
-fn mask_at(
+/// Makes a set that of the numbers of the region's locks that the instruction may concern.
+fn touched_at(
     alloc: Global,
     analysis: &FlowAnalysis,
     part: u16,
     pc: u16,
-    masks: &mut Vec<Vec<Mask>>,
+    masks: &mut Vec<Masks>,
+    touched: &mut Bits,
     found: &Found,
-) -> Result<usize, AllocError>
+) -> Result<(), AllocError>
     requires ready { IsReady (read analysis.now) (table found.now) }
     requires there { part < length analysis.now.spans.now }
     requires code { pc < length analysis.now.lowering.now.code }
-    requires masks { AreAllMasks (read analysis.now) (table found.now) (map (λ v. v.items) masks.old.items) }
-    ensures masks { OnOk result (AreAllMasks (read analysis.now) (table found.now) (map (λ v. v.items) masks.new.items)) }
-    ensures place { IfOk result (IsMaskAt (read analysis.now) (table found.now) part pc (map (λ v. v.items) masks.new.items)) }
+    requires masks { AreAllMasks (read analysis.now) (table found.now) (map (λ v. v.list.items) masks.old.items) }
+    ensures masks { OnOk result (AreAllMasks (read analysis.now) (table found.now) (map (λ v. v.list.items) masks.new.items)) }
+    ensures touched { OnOk result (LeavesStayingAt (read analysis.now) (table found.now) part pc touched.new) }
 {
     let span = analysis.spans[usize::from(part)];
     let view = view(analysis, span.function);
     let instr = analysis.lowering.code()[usize::from(pc)];
     let locks = found.parts[usize::from(part)].locks.as_slice();
-    mask_over(alloc, &view, instr, locks, &mut masks[usize::from(part)])
+    find_touched(
+        alloc,
+        &view,
+        instr,
+        locks,
+        &mut masks[usize::from(part)],
+        touched,
+    )
 }
 
 /// Adds what the locks of these numbers become over the instruction. `links` is scratch space: what it holds at first does not

@@ -2,7 +2,7 @@
 ghost use Rattle.std.specs.Prelude.{◌≡◌, IfOk, map, replicate, []};
 
 use crate::entered::AllEntered;
-use crate::masks::{Mask, no_masks};
+use crate::masks::{Masks, no_masks};
 use crate::region_needs::empty_sets;
 use asl_code::Lock;
 use asl_lane_sets::Bits;
@@ -12,14 +12,16 @@ use std::alloc::{AllocError, Global};
 #[derive(Drop)]
 pub struct Scratch {
     /// For each region, which of its locks an instruction may concern.
-    pub masks: Vec<Vec<Mask>>,
+    pub masks: Vec<Masks>,
     /// The instructions from which control continues to the point.
     pub pcs: Vec<u16>,
     /// The numbers of the locks that are needed at the point.
     pub set: Bits,
-    /// Those of them that stay over an instruction, if some do not.
+    /// The numbers of the locks that an instruction may concern.
+    pub touched: Bits,
+    /// Those that are needed and stay over an instruction, if some do not.
     pub stay: Bits,
-    /// Those of them that do not.
+    /// Those that are needed and do not.
     pub changed: Vec<usize>,
     /// What one of these locks becomes.
     pub links: Vec<Lock>,
@@ -31,13 +33,14 @@ pub struct Scratch {
 
 /// Nothing found yet, of so many regions.
 pub fn no_scratch(alloc: Global, count: usize) -> Result<Scratch, AllocError>
-    ensures masks { IfOk result (λ s. map (λ v. v.items) s.masks.items ≡ replicate count []) }
+    ensures masks { IfOk result (λ s. map (λ v. v.list.items) s.masks.items ≡ replicate count []) }
     ensures passed { IfOk result (λ s. s.passed.items ≡ replicate count []) }
 {
     Ok(Scratch {
         masks: no_masks(alloc, count)?,
         pcs: Vec::new(alloc),
         set: Bits::new(alloc),
+        touched: Bits::new(alloc),
         stay: Bits::new(alloc),
         changed: Vec::new(alloc),
         links: Vec::new(alloc),

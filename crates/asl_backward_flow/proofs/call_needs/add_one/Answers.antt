@@ -1,9 +1,6 @@
-use Rattle.std.proofs.Common.{◌∙◌, ◌++◌, Some, [], length, ap, sym, refl, arith}
-use Rattle.std.specs.List.{flat_map}
+use Rattle.std.proofs.Common.{◌∙◌, Some, [], length, ap, sym, refl, arith}
 use Rattle.std.proofs.lemmas.Option.{slice_get_within}
 use Rattle.asl_code.specs.declared.image.Function as entry
-use Rattle.asl_lock_expr.specs.Links.{settle, renamed}
-use Rattle.asl_lock_expr.specs.LinksView.{seen as seen_by}
 use Rattle.asl_backward_flow.specs.Follows.{read, IsEntered}
 use Rattle.asl_backward_flow.proofs.Sets.{some_same}
 use Rattle.asl_backward_flow.proofs.Masking.{on_more}

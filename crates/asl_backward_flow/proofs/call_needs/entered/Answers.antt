@@ -1,7 +1,7 @@
 use Rattle.std.proofs.Common.{◌≡◌, ◌∙◌, Some, [], slice_get, ap, sym, arith}
 use Rattle.std.proofs.lemmas.Option.{slice_get-get_or}
 use Rattle.asl_code.specs.declared.lock.Lock.{Lock}
-use Rattle.asl_backward_flow.specs.Follows.{read, IsEntered}
+use Rattle.asl_backward_flow.specs.Follows.{read}
 use Rattle.asl_backward_flow.proofs.Listing.{lists_more}
 use Rattle.asl_backward_flow.proofs.Entering.{each_entered, entered_more, entered_end}
 use Rattle.asl_backward_flow.proofs.call_needs.entered.Goals as goal

@@ -45,7 +45,7 @@ add_entry-requires-clause-named c =
     rw c.add_back.ensures.set (chosen_still (read c.args.analysis.now) (table c.args.found.now) (table c.add_back.new.found) (table c.add_back.new.found) c.args.point.0 c.args.point.1 c.needs.new.into (chosen (read c.args.analysis.now) c.requires.analysis (table c.args.found.now) (table c.args.found.now) c.args.point c.requires.followed c.needs.new.into c.in_ok-needs.ensures) c.in_ok-add_back.ensures.ok).named
 
 pub returns-clause-masks : goal.returns-clause-masks
-returns-clause-masks c = masks_later (read c.args.analysis.now) (table c.add_back.new.found) (table c.add_entry.new.found) (map (λ v. v.items) c.add_back.new.scratch.masks.items) _ c.in_ok-add_back.ensures.masks c.add_entry.result c.add_entry.ensures.ok
+returns-clause-masks c = masks_later (read c.args.analysis.now) (table c.add_back.new.found) (table c.add_entry.new.found) (map (λ v. v.list.items) c.add_back.new.scratch.masks.items) _ c.in_ok-add_back.ensures.masks c.add_entry.result c.add_entry.ensures.ok
 
 pub add_entry-requires-clause-passed : goal.add_entry-requires-clause-passed
 add_entry-requires-clause-passed c =

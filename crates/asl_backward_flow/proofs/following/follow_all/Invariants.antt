@@ -9,7 +9,7 @@ abbrev pub invariant-loop-point : goal.invariant-loop-point
 invariant-loop-point l = record {
   followed : IsFollowed (read l.analysis) (table l.found) (table l.found).list;
   passed : ArePassed (read l.analysis) (table l.found) l.scratch.passed.items;
-  masks : AreAllMasks (read l.analysis) (table l.found) (map (λ v. v.items) l.scratch.masks.items);
+  masks : AreAllMasks (read l.analysis) (table l.found) (map (λ v. v.list.items) l.scratch.masks.items);
 }
 
 abbrev pub decreases-loop-point : goal.decreases-loop-point

@@ -6,8 +6,7 @@ use Rattle.asl_backward_flow.proofs.masks.extend.Given as goal
 abbrev pub invariant-loop-mask : goal.invariant-loop-mask
 invariant-loop-mask l = record {
   mask : IsMask (seen l.view) l.locks l.mask;
-  register : l.mask.register ≡ l.initial.mask.register;
-  cells : l.mask.cells ≡ l.initial.mask.cells;
+  touch : l.mask.touch ≡ l.initial.mask.touch;
 }
 
 abbrev pub decreases-loop-mask : goal.decreases-loop-mask

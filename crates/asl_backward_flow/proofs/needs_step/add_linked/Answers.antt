@@ -34,7 +34,7 @@ returns-then-changes-clause-err c =
 
 pub returns-then-changes-clause-masks : goal.returns-then-changes-clause-masks
 returns-then-changes-clause-masks c =
-    masks_ok (read c.args.analysis.now) (table c.args.found.now) (table c.add_numbered.new.self) (table c.add_changed.new.found) (map (λ v. v.items) c.split_over.new.scratch.masks.items) _ _ c.in_ok-changes.ensures.masks c.in_ok-add_numbered.ensures.adds c.add_changed.result c.add_changed.ensures.ok
+    masks_ok (read c.args.analysis.now) (table c.args.found.now) (table c.add_numbered.new.self) (table c.add_changed.new.found) (map (λ v. v.list.items) c.split_over.new.scratch.masks.items) _ _ c.in_ok-changes.ensures.masks c.in_ok-add_numbered.ensures.adds c.add_changed.result c.add_changed.ensures.ok
 
 pub add_numbered-requires-2-clause-named : goal.add_numbered-requires-2-clause-named
 add_numbered-requires-2-clause-named c n h = c.requires.chosen.named n (rw c.split_over.ensures.set at h)
@@ -48,4 +48,4 @@ returns-clause-err c = none_err (read c.args.analysis.now) (table c.args.found.n
 
 pub returns-clause-masks : goal.returns-clause-masks
 returns-clause-masks c =
-    none_masks (read c.args.analysis.now) (table c.args.found.now) (table c.add_numbered-2.new.self) c.args.part c.args.pc c.args.scratch.now.set c.requires.chosen (c.in_ok-changes.ensures.none c.if-changes.false) (rw c.split_over.ensures.set at c.add_numbered-2.ensures.adds) (map (λ v. v.items) c.split_over.new.scratch.masks.items) c.in_ok-changes.ensures.masks c.add_numbered-2.result
+    none_masks (read c.args.analysis.now) (table c.args.found.now) (table c.add_numbered-2.new.self) c.args.part c.args.pc c.args.scratch.now.set c.requires.chosen (c.in_ok-changes.ensures.none c.if-changes.false) (rw c.split_over.ensures.set at c.add_numbered-2.ensures.adds) (map (λ v. v.list.items) c.split_over.new.scratch.masks.items) c.in_ok-changes.ensures.masks c.add_numbered-2.result
