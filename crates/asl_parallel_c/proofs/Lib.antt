@@ -1,1 +1,5 @@
+pub mod Parts
+pub mod Externs
+pub mod Rows
+pub mod Bodies
 pub mod Templates

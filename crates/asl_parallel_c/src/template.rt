@@ -1,6 +1,6 @@
 //! Templates: texts with places for numbers.
-ghost use Rattle.std.specs.Prelude.{◌≡◌, ℕ, List, ◌∷◌, ◌++◌, IfOk, OnErr, OnOk, drop};
-ghost use Rattle.asl_parallel_c.specs.Template.{filled, first_digits};
+ghost use Rattle.std.specs.Prelude.{◌≡◌, ℕ, ◌+◌, ◌<◌, ◌^◌, List, ◌∷◌, ◌++◌, IfOk, OnErr, OnOk, drop};
+ghost use Rattle.asl_parallel_c.specs.Template.{filled, first_digits, repeated};
 
 use crate::growth::Growth;
 use itoa::Buffer;
@@ -11,7 +11,7 @@ pub(crate) fn fill<G: Growth>(
     growth: G,
     text: &mut Vec<u8>,
     template: &[u8],
-    numbers: &[i64],
+    numbers: &[u32],
 ) -> Result<(), AllocError>
     ensures filled { OnOk result (text.new.items ≡ text.old.items ++ filled template.now numbers.now) }
     ensures growth { OnErr result (G.refused growth) }
@@ -23,13 +23,31 @@ pub(crate) fn fill<G: Growth>(
     Ok(())
 }
 
+/// Adds the template for each of so many numbers, from the first on, each `@` of it replaced by the number.
+pub(crate) fn repeat<G: Growth>(
+    growth: G,
+    text: &mut Vec<u8>,
+    template: &[u8],
+    first: u32,
+    count: u32,
+) -> Result<(), AllocError>
+    requires { first + count < 2 ^ 32 }
+    ensures repeated { OnOk result (text.new.items ≡ text.old.items ++ repeated template.now first count) }
+    ensures growth { OnErr result (G.refused growth) }
+{
+    for number in first..first + count {
+        fill(growth, text, template, &[number, number])?;
+    }
+    Ok(())
+}
+
 /// Adds the next byte of a template, or the first of the numbers, and answers which numbers are left.
 fn put_next<'a, G: Growth>(
     growth: G,
     text: &mut Vec<u8>,
     byte: u8,
-    numbers: &'a [i64],
-) -> Result<&'a [i64], AllocError>
+    numbers: &'a [u32],
+) -> Result<&'a [u32], AllocError>
     ensures written { IfOk result (λ rest. (bytes : List ℕ)
         → text.new.items ++ filled bytes rest.now ≡ text.old.items ++ filled (byte ∷ bytes) numbers.entry.now) }
     ensures growth { OnErr result (G.refused growth) }
@@ -43,7 +61,7 @@ fn put_next<'a, G: Growth>(
 }
 
 /// Adds the digits of the first number, if there is one.
-fn put_first<G: Growth>(growth: G, text: &mut Vec<u8>, numbers: &[i64]) -> Result<(), AllocError>
+fn put_first<G: Growth>(growth: G, text: &mut Vec<u8>, numbers: &[u32]) -> Result<(), AllocError>
     ensures written { OnOk result (text.new.items ≡ text.old.items ++ first_digits numbers.now) }
     ensures growth { OnErr result (G.refused growth) }
 {
@@ -55,7 +73,7 @@ fn put_first<G: Growth>(growth: G, text: &mut Vec<u8>, numbers: &[i64]) -> Resul
 }
 
 /// The numbers after the first.
-fn after_first(numbers: &[i64]) -> &[i64]
+fn after_first(numbers: &[u32]) -> &[u32]
     ensures { result.now ≡ drop 1 numbers.now }
 {
     match numbers {

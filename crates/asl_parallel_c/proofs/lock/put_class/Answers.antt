@@ -1,0 +1,9 @@
+use Rattle.std.proofs.lemmas.Result.{on_ok_weaker}
+use Rattle.asl_parallel_c.proofs.Parts.{three_parts}
+use Rattle.asl_parallel_c.proofs.lock.put_class.Goals as goal
+
+pub returns-clause-written : goal.returns-clause-written
+returns-clause-written g c =
+    on_ok_weaker c.fill.result
+    (λ w. three_parts c.args.text.now.items c.append.new.text.items c.append-2.new.text.items c.fill.new.text.items _ _ _ c.in_ok-append.ensures.appended (rw c.mode_of.ensures at c.in_ok-append-2.ensures.appended) (rw c.from.ensures at w))
+    c.fill.ensures.filled

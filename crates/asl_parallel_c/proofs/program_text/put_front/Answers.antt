@@ -1,0 +1,9 @@
+use Rattle.std.proofs.lemmas.Result.{on_ok_weaker}
+use Rattle.asl_parallel_c.proofs.Parts.{three_parts}
+use Rattle.asl_parallel_c.proofs.program_text.put_front.Goals as goal
+
+pub returns-clause-written : goal.returns-clause-written
+returns-clause-written g c =
+    on_ok_weaker c.append-2.result
+    (λ w. three_parts c.args.text.now.items c.append.new.text.items c.put_checks.new.text.items c.append-2.new.text.items _ _ _ c.in_ok-append.ensures.appended c.in_ok-put_checks.ensures.written w)
+    c.append-2.ensures.appended
