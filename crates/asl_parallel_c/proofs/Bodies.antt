@@ -1,5 +1,5 @@
 -- The texts of functions, one more at a time: each takes its body from the rest of the code.
-use Rattle.std.proofs.Common.{◌≡◌, ℕ, ◌+◌, ◌<◌, List, [], ◌∷◌, ◌++◌, drop, take, min, length, get_or, refl, sym, ap, ◌∙◌, length-take}
+use Rattle.std.proofs.Common.{◌≡◌, ℕ, ◌+◌, ◌<◌, List, ◌++◌, drop, take, min, length, get_or, refl, sym, ap, ◌∙◌, length-take}
 use Rattle.std.proofs.lemmas.List.{take_min, drop_min}
 use Rattle.asl_code.specs.declared.image.Function.{Function}
 use Rattle.asl_code.specs.declared.image.Image.{Image}

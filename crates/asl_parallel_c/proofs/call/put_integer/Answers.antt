@@ -3,7 +3,6 @@ use Rattle.std.specs.Int.{w32}
 use Rattle.std.specs.Fmt.{signed_decimal}
 use Rattle.std.proofs.lemmas.Result.{on_ok_weaker}
 use Rattle.asl_parallel_c.proofs.Parts.{three_parts}
-use Rattle.asl_parallel_c.specs.Template.{filled}
 use Rattle.asl_parallel_c.proofs.call.put_integer.Goals as goal
 
 pub returns-clause-written : goal.returns-clause-written

@@ -1,4 +1,3 @@
-use Rattle.std.proofs.Common.{arith}
 use Rattle.asl_code.proofs.FitsLaws.{image_fits}
 use Rattle.std.proofs.lemmas.Result.{on_ok_weaker}
 use Rattle.asl_parallel_c.proofs.Parts.{seven_parts}
