@@ -1,10 +1,10 @@
 //! Which lock covers another.
-ghost use Rattle.std.specs.Prelude.{◌↔◌, IsTrue, MatchOption};
+ghost use Rattle.std.specs.Prelude.{◌↔◌, ◌<◌, IsTrue, MatchOption};
 ghost use Rattle.asl_lock_expr.specs.Links.{IsOne};
 ghost use Rattle.asl_soundness.specs.Covering.{CoversLock};
 ghost use Rattle.asl_check.specs.Checked.{IsUnderOne, AreUnder, IsFirstBare};
 
-use asl_code::Lock;
+use asl_code::{Lock, Op};
 use asl_emitter::{covers, suffices_for};
 use asl_points_to::Classes;
 
@@ -18,16 +18,72 @@ fn covers_lock(classes: &Classes, function: u16, lock: &Lock, other: &Lock) -> b
     }
 }
 
-/// Whether a lock of the list covers this one.
-fn is_under_one(classes: &Classes, function: u16, list: &[Lock], lock: &Lock) -> bool
+/// For how many numbers of `*` in a path there are likely places: for none to eight.
+const DEPTHS: usize = 9;
+
+/// Whether a lock of the list covers this one. `likely` has for each number of `*` in a path where the lock stands that covered the
+/// last such lock: locks that follow one another mostly lie under the same. It is tried first, and others only after it.
+fn is_under_one(
+    classes: &Classes,
+    function: u16,
+    list: &[Lock],
+    lock: &Lock,
+    likely: &mut [usize; DEPTHS],
+) -> bool
     ensures { IsTrue result ↔ IsUnderOne classes.now function list.now lock.now }
 {
-    for over in list {
-        if covers_lock(classes, function, over, lock) {
-            return true;
+    let depth = depth(lock);
+    if is_under(classes, function, list, likely[depth], lock) {
+        return true;
+    }
+    match cover_place(classes, function, list, lock) {
+        Some(place) => {
+            likely[depth] = place;
+            true
+        }
+        None => false,
+    }
+}
+
+/// How many `*` the path of a lock has, up to eight.
+fn depth(lock: &Lock) -> usize
+    ensures { result < 9 }
+{
+    let mut depth = 0;
+    if let Lock::Expr(expr, _) = lock {
+        for op in expr.path.as_slice() {
+            if let Op::Deref = op
+                && depth + 1 < DEPTHS
+            {
+                depth += 1;
+            }
         }
     }
-    false
+    depth
+}
+
+/// Whether the lock at a place of the list covers this one.
+fn is_under(classes: &Classes, function: u16, list: &[Lock], place: usize, lock: &Lock) -> bool
+    ensures { IsTrue result → IsUnderOne classes.now function list.now lock.now }
+{
+    match list.get(place) {
+        Some(over) => covers_lock(classes, function, over, lock),
+        None => false,
+    }
+}
+
+/// Where a lock of the list stands that covers this one.
+fn cover_place(classes: &Classes, function: u16, list: &[Lock], lock: &Lock) -> Option<usize>
+    ensures { MatchOption result (¬ IsUnderOne classes.now function list.now lock.now) (λ _. IsUnderOne classes.now function list.now lock.now) }
+{
+    let mut place = 0;
+    for over in list {
+        if covers_lock(classes, function, over, lock) {
+            return Some(place);
+        }
+        place += 1;
+    }
+    None
 }
 
 /// The first of the locks that no lock of the list covers.
@@ -40,8 +96,9 @@ pub fn first_bare<'a>(
     ensures { MatchOption result (AreUnder classes.now function list.now (IsOne locks.now))
         (λ lock. IsFirstBare classes.now function list.now locks.now lock.now) }
 {
+    let mut likely = [0; DEPTHS];
     for lock in locks {
-        if !is_under_one(classes, function, list, lock) {
+        if !is_under_one(classes, function, list, lock, &mut likely) {
             return Some(lock);
         }
     }
