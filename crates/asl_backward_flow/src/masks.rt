@@ -23,11 +23,12 @@ pub struct Mask {
 #[derive(Drop)]
 pub struct Masks {
     pub list: Vec<Mask>,
-    /// For the code of a touch where its mask stands. The place of another mask, or of none, says that there is none yet.
+    /// For the code of a touch where its mask stands, if it is none of the first. The place of another mask, or of none, says that there is
+    /// none yet.
     pub places: Vec<usize>,
 }
 
-/// For how many masks a region begins with capacity: a small one has no more.
+/// For how many masks a region begins with capacity: a small one has no more. So many are found by looking at each.
 const LIKELY_MASKS: usize = 8;
 
 /// No place.
@@ -157,6 +158,14 @@ fn place_of(
 fn find(touch: Touch, masks: &Masks) -> Option<usize>
     ensures { IfSome result (IsMaskOf touch masks.now.list.items) }
 {
+    for place in 0..masks.list.len().min(LIKELY_MASKS) {
+        if masks.list[place].touch.is(touch) {
+            return Some(place);
+        }
+    }
+    if masks.list.len() <= LIKELY_MASKS {
+        return None;
+    }
     let place = *masks.places.get(code(touch))?;
     if place < masks.list.len() && masks.list[place].touch.is(touch) {
         return Some(place);
@@ -164,8 +173,11 @@ fn find(touch: Touch, masks: &Masks) -> Option<usize>
     None
 }
 
-/// Notes where the mask of what is touched stands.
+/// Notes where the mask of what is touched stands, if it is none of the first.
 fn note(places: &mut Vec<usize>, touch: Touch, place: usize) -> Result<(), AllocError> {
+    if place < LIKELY_MASKS {
+        return Ok(());
+    }
     let code = code(touch);
     for _ in places.len()..code + 1 {
         places.push(NOWHERE)?;
