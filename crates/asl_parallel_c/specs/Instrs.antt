@@ -30,7 +30,7 @@ call_text image options to first function =
 
 -- the entry of a section: it is handed all registers of its function
 abbrev pub enter_text : ℕ → ℕ → List ℕ
-enter_text regs list = filled (codes "aslr_enter(t, @, (const aslr_value[]){") (list ∷ []) ++ (repeated (codes "r@, ") 0 regs ++ codes "0});\n")
+enter_text regs list = filled (codes "{ aslr_enter(t, @, (const aslr_value[]){") (list ∷ []) ++ (repeated (codes "r@, ") 0 regs ++ codes "0}); }\n")
 
 -- an instruction of a function that has so many registers
 abbrev pub instr_text : Image → Options → ℕ → Instr → List ℕ

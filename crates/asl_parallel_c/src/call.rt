@@ -70,9 +70,9 @@ pub(crate) fn put_enter<G: Growth>(
     fill(
         growth,
         text,
-        b"aslr_enter(t, @, (const aslr_value[]){",
+        b"{ aslr_enter(t, @, (const aslr_value[]){",
         &[u32::from(list)],
     )?;
     repeat(growth, text, b"r@, ", 0, u32::from(regs))?;
-    growth.append(text, b"0});\n")
+    growth.append(text, b"0}); }\n")
 }
