@@ -1,7 +1,9 @@
 //! Damage of one byte at each place: images, run files, sources and assembly texts with it are refused, at their place, or
-//! spell what they are read as.
+//! spell what they are read as. And a program's text in C.
 #![tactic(auto)]
 
+#[cfg(test)]
+mod c_texts;
 #[cfg(test)]
 mod images;
 #[cfg(test)]
