@@ -17,7 +17,7 @@ use std::alloc::AllocError;
 ///
 /// # Errors
 ///
-/// The growth was refused. The text is then its old one and a part of what was to be added.
+/// The growth was refused. Nothing is said of the text then.
 pub fn put_program<G: Growth>(
     growth: G,
     text: &mut Vec<u8>,
