@@ -1,0 +1,3 @@
+pub mod Reasons
+-- Machinery of the proofs, not of the promise:
+pub mod Draft
