@@ -1,0 +1,5 @@
+pub mod Lengths
+pub mod Made
+pub mod Named
+pub mod Plain
+pub mod Texts

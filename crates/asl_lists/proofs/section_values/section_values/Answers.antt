@@ -1,0 +1,13 @@
+use Rattle.std.proofs.Common.{map, ap, arith}
+use Rattle.serde_json.specs.View.{view}
+use Rattle.asl_lists.proofs.Made.{none_made, more_made, all_made}
+use Rattle.asl_lists.proofs.section_values.section_values.Goals as goal
+
+pub loop-number-init : goal.loop-number-init
+loop-number-init c = none_made _ _ _ _ (ap (map view) c.new-values.ensures.items)
+
+pub loop-number-preserved : goal.loop-number-preserved
+loop-number-preserved c = more_made _ _ _ c.index-sections-number.result c.index-sections-number.result _ _ _ (omega arith) c.index-sections-number.is (rw c.as_slice.ensures at c.in_ok-push_section.ensures) c.loop-number.invariant
+
+pub returns : goal.returns
+returns c = all_made _ _ _ _ _ (omega arith) c.loop-number.invariant

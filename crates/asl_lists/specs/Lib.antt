@@ -1,0 +1,7 @@
+pub mod Numbered
+pub mod Places
+pub mod Words
+pub mod Document
+pub mod Driver
+pub mod Lengths
+pub mod Listed
