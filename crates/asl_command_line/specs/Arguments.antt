@@ -46,6 +46,10 @@ explain_app = with_rule (with_rule (new_app (codes "explain")) (value_rule (code
 abbrev pub diagnose_app : App
 diagnose_app = with_rule (with_rule (new_app (codes "diagnose")) (value_rule (codes "k"))) (flag_rule (codes "asm"))
 
+-- `c [--k K] [--check]`
+abbrev pub c_app : App
+c_app = with_rule (with_rule (new_app (codes "c")) (value_rule (codes "k"))) (flag_rule (codes "check"))
+
 -- `asm`
 abbrev pub asm_app : App
 asm_app = new_app (codes "asm")
@@ -88,7 +92,7 @@ bare_app = record {
 -- the program
 abbrev pub asl_app : App
 asl_app =
-    with_subcommand (with_subcommand (with_subcommand (with_subcommand (with_subcommand (with_subcommand (with_subcommand (with_subcommand (with_subcommand
+    with_subcommand (with_subcommand (with_subcommand (with_subcommand (with_subcommand (with_subcommand (with_subcommand (with_subcommand (with_subcommand (with_subcommand
     (with_subcommand (with_subcommand (with_subcommand bare_app
     compile_app.top) check_app.top) map_app.top) explain_app.top) diagnose_app.top) asm_app.top) dis_app.top) step_app.top) run_app.top) replay_app.top) log_app.top)
-    debug_app.top
+    debug_app.top) c_app.top

@@ -80,6 +80,8 @@ IsCommand name rows (command.Explain k_limit all) =
     (name ≡ codes "explain") × IsLengthAt rows k_limit × IsFlagAt (codes "all") rows all
 IsCommand name rows (command.Diagnose assembly k_limit) =
     (name ≡ codes "diagnose") × IsFlagAt (codes "asm") rows assembly × IsLengthAt rows k_limit
+IsCommand name rows (command.PrintC k_limit checks) =
+    (name ≡ codes "c") × IsLengthAt rows k_limit × IsFlagAt (codes "check") rows checks
 IsCommand name rows command.Replay = name ≡ codes "replay"
 IsCommand name rows (command.Log trace) = (name ≡ codes "log") × IsFlagAt (codes "trace") rows trace
 IsCommand name rows (command.Debug words) = (name ≡ codes "debug") × AreDebugWords (words_at (codes "words") rows) words.items
@@ -136,7 +138,7 @@ AskNothing rows = (words : List DebugWord) → AreDebugWords (words_at (codes "w
 abbrev pub IsMisused : Text → List Row → Text → Type 0
 IsMisused name rows text =
     ((name ≡ codes "step") × (TellsNoNumber (codes "threads") (codes "--threads <N>") rows text ⊎ TellsNoSchedule rows text))
-    ⊎ ((((name ≡ codes "compile") ⊎ ((name ≡ codes "check") ⊎ ((name ≡ codes "explain") ⊎ (name ≡ codes "diagnose")))) × TellsNoLength rows text)
+    ⊎ ((((name ≡ codes "compile") ⊎ ((name ≡ codes "check") ⊎ ((name ≡ codes "explain") ⊎ ((name ≡ codes "diagnose") ⊎ (name ≡ codes "c"))))) × TellsNoLength rows text)
     ⊎ (((name ≡ codes "run") × (TellsNoNumber (codes "threads") (codes "--threads <N>") rows text
     ⊎ (TellsNoNumber (codes "workers") (codes "--workers <W>") rows text ⊎ TellsNoNumber (codes "limit") (codes "--limit <L>") rows text)))
     ⊎ (((name ≡ codes "debug") × AskNothing rows × TellsNoWord (words_at (codes "words") rows) text)

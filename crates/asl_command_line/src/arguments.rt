@@ -2,7 +2,7 @@
 ghost use Rattle.std.specs.Prelude.{◌≡◌, false, IfOk};
 ghost use Rattle.clap.specs.Words.{app_of, new_app, rule_of, with_rule, with_subcommand};
 ghost use Rattle.clap.specs.declared.builder.command.Command.TheViews.{out-Command};
-ghost use Rattle.asl_command_line.specs.Arguments.{asl_app, asm_app, bare_app, check_app, compile_app, debug_app, diagnose_app, dis_app, explain_app, flag_rule, log_app, map_app, needed_rule, replay_app, run_app, step_app, value_rule, words_rule};
+ghost use Rattle.asl_command_line.specs.Arguments.{asl_app, asm_app, bare_app, c_app, check_app, compile_app, debug_app, diagnose_app, dis_app, explain_app, flag_rule, log_app, map_app, needed_rule, replay_app, run_app, step_app, value_rule, words_rule};
 ghost use Rattle.asl_command_line.specs.Building.{IsBuilt};
 
 use crate::help;
@@ -25,7 +25,8 @@ pub fn program<'a>(alloc: Global) -> Result<Command<'a>, AllocError>
     let command = with_command(command, run_command(alloc)?)?;
     let command = with_command(command, replay_command(alloc)?)?;
     let command = with_command(command, log_command(alloc)?)?;
-    with_command(command, debug_command(alloc)?)
+    let command = with_command(command, debug_command(alloc)?)?;
+    with_command(command, c_command(alloc)?)
 }
 
 /// The program, before it has its commands.
@@ -77,6 +78,14 @@ fn diagnose_command<'a>(alloc: Global) -> Result<Command<'a>, AllocError>
     let command = named(alloc, "diagnose", "asl diagnose")?;
     let command = with_argument(command, value(alloc, "k", "K"))?;
     with_argument(command, flag(alloc, "asm"))
+}
+
+fn c_command<'a>(alloc: Global) -> Result<Command<'a>, AllocError>
+    ensures { IfOk result (λ command. IsBuilt command c_app) }
+{
+    let command = named(alloc, "c", "asl c")?;
+    let command = with_argument(command, value(alloc, "k", "K"))?;
+    with_argument(command, flag(alloc, "check"))
 }
 
 fn asm_command<'a>(alloc: Global) -> Result<Command<'a>, AllocError>

@@ -46,6 +46,13 @@ pub enum Command {
         /// How many operations a path of a needed lock has at most.
         k_limit: PathLimit,
     },
+    /// `c`: the C program of the program that is inferred for the input, which is a source.
+    PrintC {
+        /// How many operations a path of an inferred lock has at most.
+        k_limit: PathLimit,
+        /// Whether the runtime looks at each access.
+        checks: bool,
+    },
     /// `replay`: whether the input, a run file, is a run of its program.
     Replay,
     /// `log`: the lines of the replies of the input, a run file, if it is a run of its program.

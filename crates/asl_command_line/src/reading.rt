@@ -70,6 +70,7 @@ fn read_command(
         "map" => Ok(Invocation::Alone(Command::Map)),
         "explain" => read_explain(alloc, values),
         "diagnose" => read_diagnose(alloc, values),
+        "c" => read_c(alloc, values),
         "replay" => Ok(Invocation::Alone(Command::Replay)),
         "log" => Ok(read_log(values)),
         "debug" => read_debug(alloc, values),
@@ -161,6 +162,18 @@ fn read_diagnose(alloc: Global, values: &ArgMatches<'_>) -> Result<Invocation, A
         Ok(k_limit) => {
             let assembly = flag_at(values, "asm");
             Ok(Invocation::Alone(Command::Diagnose { assembly, k_limit }))
+        }
+        Err(word) => invalid(alloc, word, "--k <K>", A_PATH_LIMIT),
+    }
+}
+
+fn read_c(alloc: Global, values: &ArgMatches<'_>) -> Result<Invocation, AllocError>
+    ensures { IfOk result (IsReading (codes "c") (rows_of (found_of values.now))) }
+{
+    match k_limit_at(values) {
+        Ok(k_limit) => {
+            let checks = flag_at(values, "check");
+            Ok(Invocation::Alone(Command::PrintC { k_limit, checks }))
         }
         Err(word) => invalid(alloc, word, "--k <K>", A_PATH_LIMIT),
     }
