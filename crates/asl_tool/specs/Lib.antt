@@ -7,6 +7,7 @@ pub mod Replay
 pub mod Log
 pub mod Debug
 pub mod Compile
+pub mod C
 pub mod Check
 pub mod Command
 pub mod Outcome

@@ -41,7 +41,7 @@ abbrev pub IsOutcome : Command → List ℕ → Result (List ℕ) CommandFault �
 IsOutcome command input (Ok output) = IsOutput command input output
 IsOutcome command input (Err f) = IsRefusedCommand command input f × (IsWantOfMemory f → ⊥)
 
--- the input alone settles the command's outcome: not that of `compile` and of `check`, which name any one of the regions that need
+-- the input alone settles the command's outcome: not that of `compile`, of `c` and of `check`, which name any one of the regions that need
 -- too many locks; of `map`, `explain` and `diagnose` it is not said
 abbrev pub IsSettled : Command → Type 0
 IsSettled (command.Compile k_limit as_text) = ⊥
@@ -49,4 +49,5 @@ IsSettled (command.Check k_limit) = ⊥
 IsSettled command.Map = ⊥
 IsSettled (command.Explain k_limit all) = ⊥
 IsSettled (command.Diagnose assembly k_limit) = ⊥
+IsSettled (command.PrintC k_limit checks) = ⊥
 IsSettled c = Unit {0}

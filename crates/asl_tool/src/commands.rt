@@ -3,6 +3,7 @@ ghost use Rattle.std.specs.Prelude.{IfOk, IfErr};
 ghost use Rattle.asl_tool.specs.Command.{IsOutput, IsRunFile, IsRefusedCommand};
 
 mod asm;
+mod c;
 mod check;
 mod compile;
 mod debug;
@@ -44,6 +45,7 @@ pub fn output_of(alloc: Global, command: &Command, input: &[u8]) -> Result<Vec<u
         Command::Diagnose { assembly, k_limit } => diagnose::diagnosed_input(
             alloc, *assembly, k_limit, input,
         ),
+        Command::PrintC { k_limit, checks } => c::printed(alloc, k_limit, *checks, input),
         Command::Replay => replay::replayed(alloc, input),
         Command::Log { trace } => log::logged(alloc, *trace, input),
         Command::Debug { words } => debug::debugged(alloc, words.as_slice(), input),

@@ -28,7 +28,11 @@ pub fn compiled(
 }
 
 /// The program that is inferred for the source.
-fn program_of(alloc: Global, k_limit: &PathLimit, source: &[u8]) -> Result<Program, CommandFault>
+pub(super) fn program_of(
+    alloc: Global,
+    k_limit: &PathLimit,
+    source: &[u8],
+) -> Result<Program, CommandFault>
     ensures ok { IfOk result (λ program. IsProgramFor source.now k_limit.now program) }
     ensures err { IfErr result (λ fault. IsRefusedSource source.now k_limit.now fault) }
 {
