@@ -17,6 +17,7 @@ enum Wanted {
     Map,
     Explain(u32, bool),
     Diagnose(bool, u32),
+    PrintC(u32, bool),
     Debug(&'static [DebugWord]),
     Assemble,
     Disassemble,
@@ -48,6 +49,9 @@ fn is_command(got: &Command, wanted: &Wanted) -> bool {
         Command::Map => matches!(wanted, Wanted::Map),
         Command::Explain { k_limit, all } => {
             matches!(wanted, Wanted::Explain(k, flag) if k_limit.operations() == *k && all == flag)
+        }
+        Command::PrintC { k_limit, checks } => {
+            matches!(wanted, Wanted::PrintC(k, flag) if k_limit.operations() == *k && checks == flag)
         }
         Command::Diagnose { assembly, k_limit } => {
             matches!(wanted, Wanted::Diagnose(is_assembly, k) if assembly == is_assembly && k_limit.operations() == *k)
@@ -291,7 +295,7 @@ fn compiling(rt: HostRuntime) {
     check(&rt, &COMPILATIONS);
 }
 
-static CHECKS: [Row; 17] = [
+static CHECKS: [Row; 21] = [
     ("check", Wanted::Check(3)),
     ("check --k 0", Wanted::Check(0)),
     ("check --k=8", Wanted::Check(8)),
@@ -305,6 +309,10 @@ static CHECKS: [Row; 17] = [
     ("explain --all --k 1", Wanted::Explain(1, true)),
     ("explain --k 9", Wanted::WrongUsage),
     ("explain --asm", Wanted::WrongUsage),
+    ("c", Wanted::PrintC(3, false)),
+    ("c --check --k 0", Wanted::PrintC(0, true)),
+    ("c --k 9", Wanted::WrongUsage),
+    ("c --text", Wanted::WrongUsage),
     ("diagnose", Wanted::Diagnose(false, 3)),
     ("diagnose --asm --k 0", Wanted::Diagnose(true, 0)),
     ("diagnose --k 9", Wanted::WrongUsage),
