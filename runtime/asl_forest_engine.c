@@ -1,0 +1,358 @@
+/* Sections under the lock forest of asl.h, which is proved, under one guard.
+ *
+ * A list is evaluated under the guard, and what it asks for is granted or refused before the guard is given up. Cells need not be atomic for
+ * that: a cell that another thread covers for writing is not read, but refused at once (docs/RACES.md, "Tries").
+ *
+ * Who is refused waits in a queue, as docs/LOCKS.md, "The queue", says: nobody goes first who comes later and asks what clashes. Who gives back
+ * looks at those who wait, first come first, and grants for each what his list asks for now, where nobody is in his way any more. So only those
+ * are woken who go on. They look a moment before they sleep. A thread has a number in the forest only while it holds something. */
+#define _POSIX_C_SOURCE 200809L
+#include "inside.h"
+#include <stdio.h>
+#include <stdlib.h>
+
+enum { MOST_AT_ONCE = 128, MOST_WOKEN = 16, GUARD_SPINS = 200 };
+
+enum { WAITS, GOES_ON, SLEEPS }; /* what `state` is */
+
+typedef struct forest_thread {
+  request asked;    /* what the thread holds, or waits for */
+  request before;   /* room: what it waited for at the last look */
+  asl_ask *asks;    /* room: the same for the forest */
+  bool holds;
+  bool held_back;   /* it waits for a cell that its list reads: what else it will ask for is not known yet */
+  bool writes;
+  uint32_t number;  /* while it holds */
+  uint32_t place;   /* among the holders */
+  struct forest_thread *next, *last; /* in the queue, while it waits */
+  mine *self;
+  const list *of;   /* while it waits */
+  const aslr_value *registers;
+  uint32_t status;  /* that it goes on with */
+  atomic_int state;
+  pthread_mutex_t mutex; /* for its sleep */
+  pthread_cond_t wake;
+} forest_thread;
+
+typedef struct {
+  asl_forest forest;
+  _Alignas(64) pthread_mutex_t guard; /* for all that follows, and the forest */
+  atomic_bool busy;                   /* whether somebody has the guard: for those who spin */
+  uint32_t holder_count, free_count, waiter_count;
+  forest_thread *holders[MOST_AT_ONCE];
+  uint8_t free[MOST_AT_ONCE];         /* numbers */
+  forest_thread *first, *last;        /* the queue */
+  bool has_mutex;
+} forest_engine;
+
+static inline forest_engine *of_runtime(const aslr_runtime *runtime) { return runtime->engine_at; }
+
+static _Noreturn void broken(const char *what, uint32_t status) {
+  fprintf(stderr, "asl: %s: status %u\n", what, status);
+  abort();
+}
+
+/* It is held for less time than it takes to sleep and to wake. */
+static void take_guard(forest_engine *engine) {
+  for (int i = 0; i < GUARD_SPINS; i++) {
+    if (!atomic_load_explicit(&engine->busy, memory_order_relaxed) && pthread_mutex_trylock(&engine->guard) == 0) {
+      atomic_store_explicit(&engine->busy, true, memory_order_relaxed);
+      return;
+    }
+    relax();
+  }
+  pthread_mutex_lock(&engine->guard);
+  atomic_store_explicit(&engine->busy, true, memory_order_relaxed);
+}
+
+static void give_guard(forest_engine *engine) {
+  atomic_store_explicit(&engine->busy, false, memory_order_relaxed);
+  pthread_mutex_unlock(&engine->guard);
+}
+
+/* ---- nodes as numbers that rise, and back */
+
+static inline uint64_t root_node(void) { return 0; }
+static inline uint64_t class_node(uint16_t klass) { return UINT64_C(1) << 40 | (uint64_t)klass << 24; }
+static inline uint64_t leaf_node(aslr_value at) {
+  const aslr_object *object = aslr_object_of(at);
+  return UINT64_C(2) << 40 | (uint64_t)object->klass << 24 | (uint64_t)object->number << 8 | aslr_offset_of(at);
+}
+
+static inline asl_ask as_ask(want one) {
+  uint64_t node = node_of(one);
+  return (asl_ask){(uint8_t)(node >> 40), mode_of(one), (uint8_t)node, (uint16_t)(node >> 24), (uint16_t)(node >> 8)};
+}
+
+static bool clash(const request *a, const request *b) {
+  for (size_t i = 0, j = 0; i < a->count && j < b->count;) {
+    uint64_t here = node_of(a->wants[i]), there = node_of(b->wants[j]);
+    if (here == there && modes_clash(mode_of(a->wants[i]), mode_of(b->wants[j]))) return true;
+    i += here <= there;
+    j += there <= here;
+  }
+  return false;
+}
+
+/* ---- what a list asks for now */
+
+static bool covers_for_writing(const request *held, aslr_value at) {
+  uint64_t leaf = leaf_node(at), klass = class_node(aslr_object_of(at)->klass);
+  for (size_t i = 0; i < held->count; i++) {
+    uint64_t node = node_of(held->wants[i]);
+    if (mode_of(held->wants[i]) == ASL_X && (node == root_node() || node == klass || node == leaf)) return true;
+  }
+  return false;
+}
+
+/* whether no other thread covers the cell for writing */
+static bool may_read(mine *self, aslr_value at) {
+#ifdef ASLR_TEST_READS_ALL /* for a test, which must then fail */
+  return true;
+#endif
+  const forest_engine *engine = of_runtime(self->thread.runtime);
+  for (uint32_t h = 0; h < engine->holder_count; h++) {
+    const forest_thread *other = engine->holders[h];
+    if (other->self != self && other->writes && covers_for_writing(&other->asked, at)) return false;
+  }
+  return true;
+}
+
+static void ask_cell(request *all, aslr_value at, uint8_t mode, uint8_t above) {
+  ask(all, root_node(), above);
+  ask(all, class_node(aslr_object_of(at)->klass), above);
+  ask(all, leaf_node(at), mode);
+}
+
+static void ask_lock(forest_thread *my, const aslr_lock *lock) {
+  uint8_t above = lock->mode == ASL_X ? ASL_IX : ASL_IS;
+  aslr_value at;
+  if (lock->kind == ASL_ROOT) {
+    ask(&my->asked, root_node(), lock->mode);
+  } else if (lock->kind == ASL_CLASS) {
+    ask(&my->asked, root_node(), above);
+    ask(&my->asked, class_node(lock->at), lock->mode);
+  } else {
+    switch (locate(my->self->thread.runtime, lock, my->registers, may_read, my->self, &at)) {
+    case A_CELL: ask_cell(&my->asked, at, lock->mode, above); break;
+    case HELD_BACK:
+      my->held_back = true;
+      ask_cell(&my->asked, at, ASL_S, ASL_IS);
+      break;
+    case NO_CELL: break;
+    }
+  }
+  my->writes = my->writes || lock->mode == ASL_X;
+}
+
+static void evaluate(forest_thread *my) {
+  my->asked.count = 0;
+  my->held_back = my->writes = false;
+  for (uint32_t i = 0; i < my->of->count && !my->held_back; i++) ask_lock(my, &my->of->locks[i]);
+}
+
+/* ---- under the guard: the queue, and grants */
+
+/* whether one who waits, and came before, asks for what clashes */
+static bool must_queue(const forest_engine *engine, const forest_thread *my, bool in_queue) {
+  for (const forest_thread *w = engine->first; w && !(in_queue && w == my); w = w->next)
+    if (clash(&w->asked, &my->asked)) return true;
+  return false;
+}
+
+static void begin_to_wait(forest_engine *engine, forest_thread *my) {
+  my->next = NULL;
+  my->last = engine->last;
+  *(engine->last ? &engine->last->next : &engine->first) = my;
+  engine->last = my;
+  engine->waiter_count++;
+}
+
+static void end_to_wait(forest_engine *engine, forest_thread *my) {
+  *(my->last ? &my->last->next : &engine->first) = my->next;
+  *(my->next ? &my->next->last : &engine->last) = my->last;
+  engine->waiter_count--;
+}
+
+/* Grants what is asked, in the forest too, where nobody is in the way. Returns ASLR_OK, ASL_IN_THE_WAY or ASLR_NO_MEMORY. */
+static uint32_t grant(forest_engine *engine, forest_thread *my, bool in_queue) {
+  if (my->asked.count == 0) return ASLR_OK;
+  if (my->held_back || engine->free_count == 0 || must_queue(engine, my, in_queue)) return ASL_IN_THE_WAY;
+  uint32_t number = engine->free[engine->free_count - 1];
+  for (size_t i = 0; i < my->asked.count; i++) my->asks[i] = as_ask(my->asked.wants[i]);
+  uint32_t status = asl_forest_try_acquire(&engine->forest, number, my->asks, my->asked.count);
+  if (status == ASL_IN_THE_WAY || status == ASL_NO_MEMORY) return status;
+  if (status != ASL_OK) broken("a request is refused", status);
+  engine->free_count--;
+  my->number = number;
+  my->place = engine->holder_count;
+  engine->holders[engine->holder_count++] = my;
+  my->holds = true;
+  return ASLR_OK;
+}
+
+static void give_back(forest_engine *engine, forest_thread *my) {
+  uint32_t status = asl_forest_release(&engine->forest, my->number);
+  if (status != ASL_OK) broken("a release is refused", status);
+  engine->free[engine->free_count++] = (uint8_t)my->number;
+  forest_thread *moved = engine->holders[--engine->holder_count];
+  engine->holders[my->place] = moved;
+  moved->place = my->place;
+  my->holds = false;
+}
+
+/* One who waits is looked at again. Returns whether he goes on. `other` becomes true where he is no more in the way of those behind him for what
+ * he asked before. */
+static bool look_again(forest_engine *engine, forest_thread *my, bool *other) {
+  request waited = my->asked;
+  if (my->of->follows) {
+    my->asked = my->before;
+    my->before = waited;
+    evaluate(my);
+    my->self->thread.counts.again++;
+  }
+  uint32_t status = grant(engine, my, true);
+  if (status == ASLR_NO_MEMORY || !same_request(&waited, &my->asked)) *other = true;
+  if (status == ASL_IN_THE_WAY) return false;
+  end_to_wait(engine, my);
+  my->status = status;
+  return true;
+}
+
+static void wake(forest_thread *my) {
+  pthread_mutex_lock(&my->mutex);
+  pthread_cond_signal(&my->wake);
+  pthread_mutex_unlock(&my->mutex);
+}
+
+/* Lets all go on who now can, after `gone` was given back; returns how many of them must be woken once the guard is given up. */
+static size_t let_on(forest_engine *engine, const request *gone, bool has_number, forest_thread *woken[MOST_WOKEN]) {
+  size_t count = 0;
+  bool other = has_number;
+  for (forest_thread *next, *w = engine->first; w; w = next) {
+    next = w->next;
+    if (!other && !clash(gone, &w->asked)) continue;
+    if (!look_again(engine, w, &other)) continue;
+    if (atomic_exchange_explicit(&w->state, GOES_ON, memory_order_acq_rel) != SLEEPS) continue;
+    if (count == MOST_WOKEN)
+      wake(w);
+    else
+      woken[count++] = w;
+  }
+  return count;
+}
+
+/* ---- waiting, without the guard */
+
+static void wait_for_turn(forest_thread *my, uint32_t spins) {
+  for (uint32_t i = 0; i < spins; i++) {
+    if (atomic_load_explicit(&my->state, memory_order_acquire) == GOES_ON) return;
+    relax();
+  }
+  int waits = WAITS;
+  pthread_mutex_lock(&my->mutex);
+  if (atomic_compare_exchange_strong_explicit(&my->state, &waits, SLEEPS, memory_order_acq_rel, memory_order_acquire)) {
+    my->self->thread.counts.sleeps++;
+    while (atomic_load_explicit(&my->state, memory_order_acquire) != GOES_ON) pthread_cond_wait(&my->wake, &my->mutex);
+  }
+  pthread_mutex_unlock(&my->mutex);
+}
+
+/* ---- the engine */
+
+static uint32_t acquire(mine *self, const list *of, const aslr_value *registers) {
+  forest_engine *engine = of_runtime(self->thread.runtime);
+  forest_thread *my = self->at;
+  my->of = of;
+  my->registers = registers;
+  if (!of->follows) {
+    evaluate(my);
+    if (my->asked.count == 0) return ASLR_OK;
+  }
+  take_guard(engine);
+  if (of->follows) evaluate(my);
+  uint32_t status = grant(engine, my, false);
+  if (status != ASL_IN_THE_WAY) {
+    give_guard(engine);
+    return status;
+  }
+  self->thread.counts.refusals++;
+  atomic_store_explicit(&my->state, WAITS, memory_order_relaxed);
+  begin_to_wait(engine, my);
+  bool crowded = engine->holder_count + engine->waiter_count > self->thread.runtime->processors;
+  give_guard(engine);
+  wait_for_turn(my, crowded ? 1 : self->thread.runtime->spins);
+  return my->status;
+}
+
+static void release(mine *self) {
+  forest_engine *engine = of_runtime(self->thread.runtime);
+  forest_thread *my = self->at;
+  if (!my->holds) return;
+  forest_thread *woken[MOST_WOKEN];
+  take_guard(engine);
+  bool had_none = engine->free_count == 0;
+  give_back(engine, my);
+  size_t count = engine->first ? let_on(engine, &my->asked, had_none, woken) : 0;
+  give_guard(engine);
+  for (size_t i = 0; i < count; i++) wake(woken[i]);
+}
+
+static bool covers(mine *self, aslr_value at, bool writes) {
+  forest_engine *engine = of_runtime(self->thread.runtime);
+  const forest_thread *my = self->at;
+  if (!my->holds) return false;
+  const aslr_object *object = aslr_object_of(at);
+  const asl_ask cell = {ASL_LEAF, 0, aslr_offset_of(at), object->klass, object->number};
+  bool found = false;
+  take_guard(engine);
+  uint32_t status = asl_forest_covers(&engine->forest, my->number, &cell, writes, &found);
+  give_guard(engine);
+  if (status != ASL_OK) broken("a question is refused", status);
+  return found;
+}
+
+static uint32_t thread_open(mine *self) {
+  forest_thread *my = self->at;
+  size_t room = self->thread.runtime->longest + 1;
+  my->self = self;
+  my->asked.wants = calloc(room, sizeof(want));
+  my->before.wants = calloc(room, sizeof(want));
+  my->asks = calloc(room, sizeof(asl_ask));
+  bool whole = my->asked.wants && my->before.wants && my->asks && pthread_mutex_init(&my->mutex, NULL) == 0;
+  if (whole && pthread_cond_init(&my->wake, NULL) == 0) return ASLR_OK;
+  if (whole) pthread_mutex_destroy(&my->mutex);
+  free(my->asked.wants);
+  free(my->before.wants);
+  free(my->asks);
+  return ASLR_NO_MEMORY;
+}
+
+static void thread_close(mine *self) {
+  forest_thread *my = self->at;
+  pthread_cond_destroy(&my->wake);
+  pthread_mutex_destroy(&my->mutex);
+  free(my->asked.wants);
+  free(my->before.wants);
+  free(my->asks);
+}
+
+static void close_engine(aslr_runtime *runtime) {
+  forest_engine *engine = of_runtime(runtime);
+  if (engine->forest.live) asl_forest_free(&engine->forest);
+  if (engine->has_mutex) pthread_mutex_destroy(&engine->guard);
+  free(engine);
+  runtime->engine_at = NULL;
+}
+
+static uint32_t open_engine(aslr_runtime *runtime, const aslr_options *options) {
+  forest_engine *engine = aligned_alloc(64, (sizeof *engine + 63) & ~(size_t)63);
+  if (!engine) return ASLR_NO_MEMORY;
+  *engine = (forest_engine){.free_count = options->at_once ? options->at_once : MOST_AT_ONCE};
+  runtime->engine_at = engine;
+  for (uint32_t n = 0; n < engine->free_count; n++) engine->free[n] = (uint8_t)(engine->free_count - 1 - n);
+  engine->has_mutex = pthread_mutex_init(&engine->guard, NULL) == 0;
+  return engine->has_mutex ? asl_forest_new(runtime->program->classes, engine->free_count, &engine->forest) : (uint32_t)ASLR_NO_MEMORY;
+}
+
+const engine aslr_forest_engine = {open_engine, close_engine, sizeof(forest_thread), thread_open, thread_close, acquire, release, covers};

@@ -1,0 +1,204 @@
+/* `main` of an emitted program: its threads, what they print, and how it ends. */
+#define _POSIX_C_SOURCE 200809L
+#include "inside.h"
+#include <stdio.h>
+#include <stdlib.h>
+#include <string.h>
+#include <unistd.h>
+
+enum { ALL_DONE = 0, REFUSED = 1, WRONG_USAGE = 2, A_FAULT = 3, MOST_THREADS = 10000, STACK = 16 << 20 };
+
+/* threads begin together, once all of them are there, or not at all */
+typedef struct {
+  pthread_mutex_t mutex;
+  pthread_cond_t open;
+  enum { CLOSED, OPEN, CANCELLED } state;
+} gate;
+
+static gate start = {PTHREAD_MUTEX_INITIALIZER, PTHREAD_COND_INITIALIZER, CLOSED};
+
+static bool may_start(void) {
+  pthread_mutex_lock(&start.mutex);
+  while (start.state == CLOSED) pthread_cond_wait(&start.open, &start.mutex);
+  bool may = start.state == OPEN;
+  pthread_mutex_unlock(&start.mutex);
+  return may;
+}
+
+static void open_gate(bool all_there) {
+  pthread_mutex_lock(&start.mutex);
+  start.state = all_there ? OPEN : CANCELLED;
+  pthread_cond_broadcast(&start.open);
+  pthread_mutex_unlock(&start.mutex);
+}
+
+/* ---- what is printed: a line by one call, so that lines of threads do not mix */
+
+static const char *show(char to[32], aslr_value value) {
+  if (aslr_is_int(value))
+    snprintf(to, 32, "int %d", aslr_int_of(value));
+  else if (value == ASLR_NULL)
+    snprintf(to, 32, "null");
+  else
+    snprintf(to, 32, "addr %u.%u", aslr_object_of(value)->number, aslr_offset_of(value));
+  return to;
+}
+
+void aslr_out(aslr_thread *t, aslr_value a) {
+  char value[32];
+  printf("%u out %s\n", t->number, show(value, a));
+}
+
+static void print_fault(const aslr_thread *t) {
+  static const char *const NAMES[] = {"Type", "Null", "Bounds", "Unprotected", "Full", "Stack", "Open", "Deep", "NoSection"};
+  if (t->ended_by == ASLR_FAULT_UNPROTECTED)
+    printf("%u fault Unprotected %u.%u %s\n", t->number, aslr_object_of(t->fault_at)->number, aslr_offset_of(t->fault_at),
+           t->fault_writes ? "write" : "read");
+  else
+    printf("%u fault %s\n", t->number, NAMES[t->ended_by]);
+}
+
+/* ---- a thread */
+
+static void run_entry(aslr_thread *t) {
+  char value[32];
+  if (setjmp(t->failed)) return;
+  aslr_value done = t->runtime->program->entry(t, aslr_int((int32_t)t->number));
+  if (t->depth > 0) aslr_fault(t, ASLR_FAULT_OPEN);
+  printf("%u done %s\n", t->number, show(value, done));
+  t->frames = 0;
+}
+
+static bool is_done(const aslr_thread *t) { return t->frames == 0; }
+
+static void *run(void *given) {
+  aslr_thread *t = given;
+  if (!may_start()) return NULL;
+  run_entry(t);
+  if (!is_done(t) && t->status == ASLR_OK) print_fault(t);
+  return NULL;
+}
+
+/* ---- the program */
+
+typedef struct {
+  uint32_t threads;
+  bool counts;
+  aslr_options options;
+} usage;
+
+static bool read_threads(const char *word, uint32_t *threads) {
+  char *end;
+  unsigned long found = word[0] >= '0' && word[0] <= '9' ? strtoul(word, &end, 10) : 0;
+  if (found < 1 || found > MOST_THREADS || *end) return false;
+  *threads = (uint32_t)found;
+  return true;
+}
+
+static bool read_usage(int argc, char **argv, usage *into) {
+  for (int i = 1; i < argc; i++) {
+    const char *word = argv[i];
+    if (strcmp(word, "--counts") == 0)
+      into->counts = true;
+    else if (strcmp(word, "--share-numbers") == 0)
+      into->options.shares_numbers = true;
+    else if (strcmp(word, "--engine") == 0 && i + 1 < argc && strcmp(argv[i + 1], "forest") == 0)
+      i++;
+    else if (strcmp(word, "--engine") == 0 && i + 1 < argc && strcmp(argv[i + 1], "words") == 0)
+      into->options.engine = ASLR_WORDS, i++;
+    else if (i + 1 < argc || !read_threads(word, &into->threads))
+      return false;
+  }
+  return true;
+}
+
+static int refused(uint32_t status) {
+  fprintf(stderr, "asl: %s\n", status == ASLR_NO_MEMORY ? "OutOfMemory" : status == ASLR_BAD_COUNT ? "BadCount" : status == ASLR_BAD_ENGINE ? "BadEngine" : "BadProgram");
+  return REFUSED;
+}
+
+/* Starts and joins a thread of the system for each; 0, or what pthread_create returns of the first that it refuses. */
+static int run_all(aslr_thread **threads, pthread_t *ids, uint32_t count) {
+  pthread_attr_t attributes;
+  int refusal = pthread_attr_init(&attributes);
+  if (refusal) return refusal;
+  pthread_attr_setstacksize(&attributes, STACK);
+  uint32_t started = 0;
+  while (started < count && !refusal) {
+    refusal = pthread_create(&ids[started], &attributes, run, threads[started]);
+    started += !refusal;
+  }
+  open_gate(!refusal);
+  for (uint32_t i = 0; i < started; i++) pthread_join(ids[i], NULL);
+  pthread_attr_destroy(&attributes);
+  return refusal;
+}
+
+static void print_globals(const aslr_runtime *runtime) {
+  char value[32];
+  for (uint32_t g = 0; g < runtime->program->globals; g++)
+    printf("global %u %s\n", g, show(value, aslr_read(aslr_cell_of(aslr_global(runtime, g)))));
+}
+
+/* The status of the process, after all have run. */
+static int ending(aslr_thread **threads, uint32_t count) {
+  int found = ALL_DONE;
+  for (uint32_t i = 0; i < count; i++) {
+    if (is_done(threads[i])) continue;
+    if (threads[i]->status != ASLR_OK) return refused(threads[i]->status);
+    found = A_FAULT;
+  }
+  return found;
+}
+
+/* With memory for the threads, and as many of them open as `opened` says. */
+static int run_threads(aslr_runtime *runtime, aslr_thread **threads, pthread_t *ids, uint32_t count, uint32_t *opened) {
+  while (*opened < count) {
+    uint32_t status = aslr_thread_open(runtime, &threads[*opened]);
+    if (status != ASLR_OK) return refused(status);
+    threads[*opened]->number = *opened;
+    ++*opened;
+  }
+  if (run_all(threads, ids, count)) {
+    fprintf(stderr, "asl: Spawn\n");
+    return REFUSED;
+  }
+  print_globals(runtime);
+  return ending(threads, count);
+}
+
+static int run_program(aslr_runtime *runtime, const usage *given) {
+  aslr_thread **threads = calloc(given->threads, sizeof *threads);
+  pthread_t *ids = calloc(given->threads, sizeof *ids);
+  uint32_t opened = 0;
+  int status = threads && ids ? run_threads(runtime, threads, ids, given->threads, &opened) : refused(ASLR_NO_MEMORY);
+  for (uint32_t i = 0; i < opened; i++) aslr_thread_close(threads[i]);
+  free(ids);
+  free(threads);
+  if (given->counts) {
+    aslr_counts counts;
+    aslr_counts_of(runtime, &counts);
+    fprintf(stderr, "sections %llu refusals %llu again %llu sleeps %llu\n", (unsigned long long)counts.sections,
+            (unsigned long long)counts.refusals, (unsigned long long)counts.again, (unsigned long long)counts.sleeps);
+  }
+  return status;
+}
+
+int aslr_main(const aslr_program *program, int argc, char **argv) {
+  long processors = sysconf(_SC_NPROCESSORS_ONLN);
+  usage given = {.threads = processors > 0 && processors < MOST_THREADS ? (uint32_t)processors : 1};
+  if (!read_usage(argc, argv, &given)) {
+    fprintf(stderr, "usage: %s [--engine forest|words] [--counts] [--share-numbers] [THREADS]\n", argc > 0 ? argv[0] : "PROGRAM");
+    return WRONG_USAGE;
+  }
+  aslr_runtime *runtime;
+  uint32_t opened = aslr_open(program, &given.options, &runtime);
+  if (opened != ASLR_OK) return refused(opened);
+  int status = run_program(runtime, &given);
+  aslr_close(runtime);
+  if (fflush(stdout) != 0 || ferror(stdout)) {
+    fprintf(stderr, "asl: Write\n");
+    return REFUSED;
+  }
+  return status;
+}
