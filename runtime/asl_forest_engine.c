@@ -205,7 +205,11 @@ static void give_back(forest_engine *engine, forest_thread *my) {
  * he asked before. */
 static bool look_again(forest_engine *engine, forest_thread *my, bool *other) {
   request waited = my->asked;
+#ifdef ASLR_TEST_ONE_EVALUATION /* for a test, which must then fail */
+  if (my->held_back) {
+#else
   if (my->of->follows) {
+#endif
     my->asked = my->before;
     my->before = waited;
     evaluate(my);
