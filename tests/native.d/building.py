@@ -9,7 +9,7 @@ ASL = os.environ.get("ASL", str(ROOT / "asl"))
 CC = os.environ.get("CC", "cc")
 WARNINGS = ["-std=c11", "-Wall", "-Wextra", "-Wpedantic", "-Werror", "-pthread", "-I", str(ROOT / "include"), "-I", str(ROOT / "runtime")]
 LIBRARY = ROOT / "out/lib/libasl.a"
-sys.path.insert(0, str(ROOT / "bench"))
+sys.path.insert(0, str(ROOT / "tests"))
 sys.dont_write_bytecode = True
 
 
@@ -21,7 +21,7 @@ def asl(words, given):
 
 def ready():
     """The library is made, and the program has `asl c`."""
-    subprocess.run([ROOT / "bench/library"], check=True)
+    subprocess.run([ROOT / "tools/library"], check=True)
     status, _, errors = asl(["c"], (ROOT / "examples/counter.asl").read_bytes())
     if status:
         sys.exit(f"{os.path.basename(sys.argv[0])}: `{ASL} c` does not answer: {errors.decode().strip()}")
