@@ -1,4 +1,4 @@
-"""The outcomes of a program's serial runs, by bench/reference, which shares no code with asl: what each thread puts out and how it ends, and
+"""The outcomes of a program's serial runs, by tests/reference, which shares no code with asl: what each thread puts out and how it ends, and
 the heap that the globals reach, all without the numbers of objects. In a serial run one section at a time runs, to its end."""
 import building
 from reference.machine import Addr, Fault, Frame, Machine, Thread, inferred
