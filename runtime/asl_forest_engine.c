@@ -11,7 +11,7 @@
 #include <stdio.h>
 #include <stdlib.h>
 
-enum { MOST_AT_ONCE = 128, MOST_WOKEN = 16, GUARD_SPINS = 200 };
+enum { MOST_AT_ONCE = 128, MOST_WOKEN = 16, GUARD_SPIN_NS = 10000 };
 
 enum { WAITS, GOES_ON, SLEEPS }; /* what `state` is */
 
@@ -52,16 +52,18 @@ static _Noreturn void broken(const char *what, uint32_t status) {
   abort();
 }
 
+static bool try_guard(forest_engine *engine) {
+  return !atomic_load_explicit(&engine->busy, memory_order_relaxed) && pthread_mutex_trylock(&engine->guard) == 0;
+}
+
 /* It is held for less time than it takes to sleep and to wake. */
 static void take_guard(forest_engine *engine) {
-  for (int i = 0; i < GUARD_SPINS; i++) {
-    if (!atomic_load_explicit(&engine->busy, memory_order_relaxed) && pthread_mutex_trylock(&engine->guard) == 0) {
-      atomic_store_explicit(&engine->busy, true, memory_order_relaxed);
-      return;
-    }
-    relax();
+  if (!try_guard(engine)) {
+    spin s = spin_for(GUARD_SPIN_NS);
+    bool has = false;
+    while (!has && spins(&s)) has = try_guard(engine);
+    if (!has) pthread_mutex_lock(&engine->guard);
   }
-  pthread_mutex_lock(&engine->guard);
   atomic_store_explicit(&engine->busy, true, memory_order_relaxed);
 }
 
@@ -223,41 +225,65 @@ static bool look_again(forest_engine *engine, forest_thread *my, bool *other) {
   return true;
 }
 
+/* Whether one who waits need not be looked at: what he asked for clashes with what one before him waits for, or has just been granted; `go` are those
+ * who have been, a list by `next`. When that one gives back, or asks for something else, he is looked at again. */
+static bool stays(const forest_engine *engine, const forest_thread *my, const forest_thread *go) {
+  for (; go; go = go->next)
+    if (go->holds && clash(&go->asked, &my->asked)) return true;
+  return must_queue(engine, my, true);
+}
+
+/* Grants all who wait and now can go on, after `gone` was given back, and returns them as a list by `next`. `all`: what else has changed is not
+ * known. */
+static forest_thread *find_all(forest_engine *engine, const request *gone, bool all) {
+  forest_thread *go = NULL;
+  for (forest_thread *next, *w = engine->first; w && engine->free_count > 0; w = next) {
+    next = w->next;
+    if ((!all && !clash(gone, &w->asked)) || stays(engine, w, go) || !look_again(engine, w, &all)) continue;
+    w->next = go;
+    go = w;
+  }
+  return go;
+}
+
+/* ---- waking */
+
+typedef struct {
+  size_t count;
+  forest_thread *threads[MOST_WOKEN];
+} sleepers;
+
 static void wake(forest_thread *my) {
   pthread_mutex_lock(&my->mutex);
   pthread_cond_signal(&my->wake);
   pthread_mutex_unlock(&my->mutex);
 }
 
-/* Lets all go on who now can, after `gone` was given back; returns how many of them must be woken once the guard is given up. */
-static size_t let_on(forest_engine *engine, const request *gone, bool has_number, forest_thread *woken[MOST_WOKEN]) {
-  size_t count = 0;
-  bool other = has_number;
-  for (forest_thread *next, *w = engine->first; w; w = next) {
-    next = w->next;
-    if (!other && !clash(gone, &w->asked)) continue;
-    if (!look_again(engine, w, &other)) continue;
-    if (atomic_exchange_explicit(&w->state, GOES_ON, memory_order_acq_rel) != SLEEPS) continue;
-    if (count == MOST_WOKEN)
-      wake(w);
+/* Lets them go on, from this moment. Those who sleep must be woken, the first of them after the guard is given up. */
+static void let_all_on(forest_thread *go, sleepers *asleep) {
+  asleep->count = 0;
+  for (forest_thread *next; go; go = next) {
+    next = go->next;
+    if (atomic_exchange_explicit(&go->state, GOES_ON, memory_order_acq_rel) != SLEEPS) continue;
+    if (asleep->count < MOST_WOKEN)
+      asleep->threads[asleep->count++] = go;
     else
-      woken[count++] = w;
+      wake(go);
   }
-  return count;
 }
 
 /* ---- waiting, without the guard */
 
-static void wait_for_turn(forest_thread *my, uint32_t spins) {
-  for (uint32_t i = 0; i < spins; i++) {
-    if (atomic_load_explicit(&my->state, memory_order_acquire) == GOES_ON) return;
-    relax();
-  }
+static bool goes_on(forest_thread *my) { return atomic_load_explicit(&my->state, memory_order_acquire) == GOES_ON; }
+
+static void wait_for_turn(forest_thread *my, uint32_t spin_ns) {
+  for (spin s = spin_for(spin_ns); !goes_on(my) && spins(&s);) continue;
+  if (goes_on(my)) return;
   int waits = WAITS;
   pthread_mutex_lock(&my->mutex);
   if (atomic_compare_exchange_strong_explicit(&my->state, &waits, SLEEPS, memory_order_acq_rel, memory_order_acquire)) {
     my->self->thread.counts.sleeps++;
-    while (atomic_load_explicit(&my->state, memory_order_acquire) != GOES_ON) pthread_cond_wait(&my->wake, &my->mutex);
+    while (!goes_on(my)) pthread_cond_wait(&my->wake, &my->mutex);
   }
   pthread_mutex_unlock(&my->mutex);
 }
@@ -285,21 +311,21 @@ static uint32_t acquire(mine *self, const list *of, const aslr_value *registers)
   begin_to_wait(engine, my);
   bool crowded = engine->holder_count + engine->waiter_count > self->thread.runtime->processors;
   give_guard(engine);
-  wait_for_turn(my, crowded ? 1 : self->thread.runtime->spins);
+  wait_for_turn(my, crowded ? 1 : self->thread.runtime->spin_ns);
   return my->status;
 }
 
 static void release(mine *self) {
   forest_engine *engine = of_runtime(self->thread.runtime);
   forest_thread *my = self->at;
+  sleepers asleep;
   if (!my->holds) return;
-  forest_thread *woken[MOST_WOKEN];
   take_guard(engine);
   bool had_none = engine->free_count == 0;
   give_back(engine, my);
-  size_t count = engine->first ? let_on(engine, &my->asked, had_none, woken) : 0;
+  let_all_on(find_all(engine, &my->asked, had_none), &asleep);
   give_guard(engine);
-  for (size_t i = 0; i < count; i++) wake(woken[i]);
+  for (size_t i = 0; i < asleep.count; i++) wake(asleep.threads[i]);
 }
 
 static bool covers(mine *self, aslr_value at, bool writes) {

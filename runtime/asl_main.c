@@ -113,7 +113,11 @@ static bool read_usage(int argc, char **argv, usage *into) {
 }
 
 static int refused(uint32_t status) {
-  fprintf(stderr, "asl: %s\n", status == ASLR_NO_MEMORY ? "OutOfMemory" : status == ASLR_BAD_COUNT ? "BadCount" : status == ASLR_BAD_ENGINE ? "BadEngine" : "BadProgram");
+  const char *why = "BadProgram";
+  if (status == ASLR_NO_MEMORY) why = "OutOfMemory";
+  if (status == ASLR_BAD_COUNT) why = "BadCount";
+  if (status == ASLR_BAD_ENGINE) why = "BadEngine";
+  fprintf(stderr, "asl: %s\n", why);
   return REFUSED;
 }
 

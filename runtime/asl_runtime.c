@@ -5,7 +5,7 @@
 #include <string.h>
 #include <unistd.h>
 
-enum { MOST_OBJECTS = 65536, MOST_CLASSES = 65536, MOST_LOCKS = 256, MOST_LISTS = 65536, BLOCK = 1 << 16, NAMES_AT_ONCE = 1 << 20, SPINS = 2000 };
+enum { MOST_OBJECTS = 65536, MOST_CLASSES = 65536, MOST_LOCKS = 256, MOST_LISTS = 65536, BLOCK = 1 << 16, NAMES_AT_ONCE = 1 << 20, SPIN_NS = 50000 };
 
 /* ---- programs */
 
@@ -157,7 +157,7 @@ uint32_t aslr_open(const aslr_program *program, const aslr_options *options, asl
   if (!made) return ASLR_NO_MEMORY;
   made->program = program;
   made->engine = options->engine == ASLR_FOREST ? &aslr_forest_engine : &aslr_words_engine;
-  made->spins = options->spins ? options->spins : SPINS;
+  made->spin_ns = options->spin_ns ? options->spin_ns : SPIN_NS;
   made->processors = processors();
   made->shares_numbers = options->shares_numbers;
   atomic_init(&made->numbers_given, 0);
@@ -303,17 +303,16 @@ bool aslr_may_access(aslr_thread *thread, aslr_value at, bool writes) {
 
 /* ---- for emitted programs */
 
-void aslr_fault(aslr_thread *t, aslr_fault_kind fault) {
+void aslr_stop(aslr_thread *t, uint32_t status) {
   aslr_abandon(t);
-  t->ended_by = fault;
-  t->status = ASLR_OK;
+  t->frames = 1;
+  t->status = status;
   longjmp(t->failed, 1);
 }
 
-void aslr_stop(aslr_thread *t, uint32_t status) {
-  aslr_abandon(t);
-  t->status = status;
-  longjmp(t->failed, 1);
+void aslr_fault(aslr_thread *t, aslr_fault_kind fault) {
+  t->ended_by = fault;
+  aslr_stop(t, ASLR_OK);
 }
 
 void aslr_check(aslr_thread *t, aslr_value at, bool writes) {

@@ -115,7 +115,7 @@ typedef enum { ASLR_FOREST, ASLR_WORDS } aslr_engine;
 typedef struct aslr_options {
   aslr_engine engine;   /* forest */
   uint32_t at_once;     /* how many threads may be in sections at one time, 1 to 128; 0: 128. Only `forest` asks */
-  uint32_t spins;       /* how often who waits looks before it sleeps; 0: a few microseconds; 1: it sleeps at once */
+  uint32_t spin_ns;     /* how long who waits looks before it sleeps, where there are processors enough; 0: 50 microseconds */
   bool shares_numbers;  /* no: object 65,537 is refused. yes: numbers begin again, and objects of a class and a number share their locks */
 } aslr_options;
 

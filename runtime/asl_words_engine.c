@@ -109,11 +109,11 @@ static void sleep_for(words_engine *engine, uint64_t at, uint64_t clash) {
 static void wait_for(mine *self, uint64_t at, uint64_t clash) {
   words_engine *engine = of_runtime(self->thread.runtime);
   bool crowded = atomic_load_explicit(&engine->busy, memory_order_relaxed) > self->thread.runtime->processors;
-  uint32_t spins = crowded ? 1 : self->thread.runtime->spins;
-  for (uint32_t i = 0; i < spins; i++) {
-    if (!(atomic_load_explicit(&engine->nodes[at].word, memory_order_relaxed) & clash)) return;
-    relax();
-  }
+  const _Atomic uint64_t *word = &engine->nodes[at].word;
+  spin s = spin_for(crowded ? 1 : self->thread.runtime->spin_ns);
+  do {
+    if (!(atomic_load_explicit(word, memory_order_relaxed) & clash)) return;
+  } while (spins(&s));
   self->thread.counts.sleeps++;
   sleep_for(engine, at, clash);
 }

@@ -4,6 +4,7 @@
 
 #include "asl_runtime.h"
 #include <pthread.h>
+#include <time.h>
 
 /* ---- requests: nodes that rise, each once, with the mode that is asked there */
 
@@ -78,7 +79,7 @@ struct aslr_runtime {
   uint32_t list_count, longest; /* longest: so many nodes a request may have */
   list *lists;
   aslr_value *globals;
-  uint32_t spins, processors;
+  uint32_t spin_ns, processors;
   bool shares_numbers;
   _Atomic uint64_t numbers_given;
   _Atomic uint64_t names_given; /* of sections */
@@ -100,13 +101,29 @@ struct mine {
 
 static inline mine *of_thread(aslr_thread *thread) { return (mine *)thread; }
 
-/* a moment, for who spins */
-static inline void relax(void) {
+/* ---- spinning: `for (spin s = spin_for(ns); !LOOK && spins(&s);) continue;` */
+
+typedef struct {
+  uint64_t until;
+  unsigned turns;
+} spin;
+
+static inline uint64_t now(void) {
+  struct timespec at;
+  clock_gettime(CLOCK_MONOTONIC, &at);
+  return (uint64_t)at.tv_sec * 1000000000u + (uint64_t)at.tv_nsec;
+}
+
+static inline spin spin_for(uint32_t ns) { return (spin){now() + ns, 0}; }
+
+/* pauses for a moment; whether there is time for another look */
+static inline bool spins(spin *self) {
 #if defined __x86_64__ || defined __i386__
   __builtin_ia32_pause();
 #elif defined __aarch64__
   __asm__ volatile("yield");
 #endif
+  return ++self->turns % 64 != 0 || now() < self->until;
 }
 
 /* ---- the cell that an expression denotes */

@@ -1,6 +1,6 @@
-/* Measures sections a second of one program that `asl c --extern work=bench_work` printed. EMITTED names its text, P_bank and the like say which it
- * is, and F_transfer and the like which functions are whose. Sections are kept apart by the runtime, or with BENCH_MUTEX by one mutex, BENCH_RWLOCK
- * by one read-write lock, BENCH_TM by transactions of gcc.
+/* Measures sections a second of one program that `asl c` printed, with bench_work in the place of its function `work`. EMITTED names its text, P_bank
+ * and the like say which it is, and F_transfer and the like which functions are whose. Sections are kept apart by the runtime, or with BENCH_MUTEX by
+ * one mutex, BENCH_RWLOCK by one read-write lock, BENCH_TM by transactions of gcc.
  * usage: driver turn                                           how many nanoseconds a turn of work takes
  *        driver ENGINE THREADS MILLISECONDS TURNS              SECTIONS REFUSALS AGAIN SLEEPS a second */
 #define _GNU_SOURCE
@@ -102,7 +102,10 @@ static void setup(aslr_thread *t) {
   for (int key = 0; key < LENGTH; key++)
     for (int b = 0; b < 16; b++) pushes[b](t, aslr_int(key));
 }
-static void section(aslr_thread *t, uint64_t r, aslr_value turns) { (r >> 20 & 1 ? finds : bumps)[r % 16](t, aslr_int((int32_t)((r >> 8) % LENGTH)), turns); }
+static void section(aslr_thread *t, uint64_t r, aslr_value turns) {
+  aslr_value key = aslr_int((int32_t)((r >> 8) % LENGTH));
+  (r >> 20 & 1 ? finds : bumps)[r % 16](t, key, turns);
+}
 static bool is_right(aslr_thread *t) { return aslr_is_address(aslr_load(t, aslr_glob(t, 0))); }
 #elif defined P_list
 enum { LENGTH = 32 };

@@ -195,7 +195,8 @@ int main(int argc, char **argv) {
   if (argc != 6) fail("usage: soak forest|words SECONDS SEED THREADS AT_ONCE");
   int threads = atoi(argv[4]);
   if (threads < 1 || threads > MOST_THREADS) fail("1 to 400 threads");
-  aslr_options options = {.engine = strcmp(argv[1], "words") == 0 ? ASLR_WORDS : ASLR_FOREST, .at_once = (uint32_t)atoi(argv[5]), .shares_numbers = true};
+  aslr_engine engine = strcmp(argv[1], "words") == 0 ? ASLR_WORDS : ASLR_FOREST;
+  aslr_options options = {.engine = engine, .at_once = (uint32_t)atoi(argv[5]), .shares_numbers = true};
   static worker workers[MOST_THREADS];
   for (int i = 0; i < threads; i++) workers[i].chance = strtoull(argv[3], NULL, 10) * 1000003 + (uint64_t)i;
   aslr_counts whole = {0};
