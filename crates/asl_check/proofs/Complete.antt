@@ -1,5 +1,5 @@
 -- The inferred program of a tree is checked, and what is checked is refused only where the memory ran out.
-use Rattle.std.proofs.Common.{◌≡◌, ℕ, zero, suc, Bool, List, [], ◌∷◌, Some, length, slice_get, ap, sym, subst, inl, inr}
+use Rattle.std.proofs.Common.{◌≡◌, ℕ, suc, Bool, List, ◌∷◌, ◌++◌, Some, length, slice_get, refl, ap, sym, subst, inl, inr}
 use Rattle.std.proofs.lemmas.Option.{slice_get_within}
 use Rattle.asl_code.specs.declared.image.Image.{Image}
 use Rattle.asl_code.specs.declared.instr.Instr.{Instr}
@@ -15,7 +15,7 @@ use Rattle.asl_points_to.specs.Classes.{Classed, AreClasses}
 use Rattle.asl_points_to.proofs.Uniques.{one_classed}
 use Rattle.asl_lock_expr.specs.ClassOf.{TellsStores}
 use Rattle.asl_lock_expr.specs.Links.{IsOne, dereferenced}
-use Rattle.asl_lock_expr.proofs.Ones.{flat_from}
+use Rattle.asl_lock_expr.proofs.Ones.{one_right, flat_from}
 use Rattle.asl_backward_flow.specs.Needed.{Needed, Before}
 use Rattle.asl_emitter.specs.Inferred.{Analysis, IsInferred, IsInferredFor}
 use Rattle.asl_emitter.specs.Refused.{IsAccepted}
@@ -25,9 +25,9 @@ use Rattle.asl_emitter.proofs.Guarding.{expression_given}
 use Rattle.asl_emitter.proofs.Needing.{needed_class}
 use Rattle.asl_emitter.proofs.Outcomes.{accepted}
 use Rattle.asl_check.specs.declared.fault.CheckFault.{CheckFault}
-use Rattle.asl_check.specs.declared.fault.CheckFault.TheVariants.{Infer, OtherCode, Uncovered, Unguarded, OutOfMemory}
+use Rattle.asl_check.specs.declared.fault.CheckFault.TheVariants.{Infer, OtherCode, Uncovered, Unguarded}
 use Rattle.asl_soundness.specs.Safe.{ListsCover}
-use Rattle.asl_check.specs.Checked.{IsUnderOne, reads_of, IsCodeOf, IsOtherCode, AreGuarded, IsFirstLacking, IsFirstOpen}
+use Rattle.asl_check.specs.Checked.{IsUnderOne, IsCodeOf, IsOtherCode, AreGuarded, IsFirstLacking, IsFirstOpen}
 use Rattle.asl_check.specs.Refused.{IsChecked, IsRefusedLists, IsOutOfMemory}
 
 -- what holds of one analysis of a tree holds of each
@@ -41,10 +41,9 @@ module _ (is : List Item) (l : Lowered) (c : Classed) (stores : ℕ → ℕ → 
       subst (λ k. (d : Classed) → AreClasses k d → (o : ℕ → ℕ → Bool) → TellsStores k d o → P k d o → P l c stores) (sym e)
       (λ d k o u q. by_classes d (one_classed l d c k are) o u q) a.program.classes a.program.are_classes a.stores a.tells p
 
-pub one_got : (xs : List Lock) (n : ℕ) (a : Lock) → slice_get xs n ≡ Some a → IsOne xs a
-one_got [] n a e = cc
-one_got (x ∷ xs) zero a e = inl (cc)
-one_got (x ∷ xs) (suc n) a e = inr (one_got xs n a e)
+-- the first of some locks is one of them
+pub first_one : (front rest : List Lock) (a : Lock) → IsOne (front ++ a ∷ rest) a
+first_one front rest a = one_right front (a ∷ rest) a (inl refl)
 
 module _ (l : Lowered) (c : Classed) (stores : ℕ → ℕ → Bool) (k_limit : ℕ) (image : Image) (kept : IsLegalLowering l) (are : AreClasses l c) (m : IsInferred l c stores k_limit image) where
   under : (n : ℕ) (s : Section) (list : List Lock) (a : Lock) → slice_get l.sections n ≡ Some s → slice_get image.lists n ≡ Some list → Needed l c stores k_limit (Inside n) (suc s.acquire) a → IsUnderOne c s.function list a
@@ -91,11 +90,11 @@ not_other l c image pc m (inr tables) = tables.1 m.tables
 
 pub not_lacking : (l : Lowered) (c : Classed) (stores : ℕ → ℕ → Bool) (k_limit : ℕ) (image : Image) (section : ℕ) (a : Lock) → ListsCover l c (Needed l c stores k_limit) image → IsFirstLacking l c (Needed l c stores k_limit) image.lists section a → ⊥
 not_lacking l c stores k_limit image section a over h =
-    h.first.bare (over section h.is h.list a h.in_table h.listed (h.reduced.kept a (one_got h.needed h.first.index a h.first.at)).0)
+    h.first.bare (over section h.is h.list a h.in_table h.listed h.first.is)
 
 pub not_open : (l : Lowered) (c : Classed) (lists : List (List Lock)) (section : ℕ) (a : Lock) → AreGuarded l c lists (length l.sections) → IsFirstOpen l c lists section a → ⊥
 not_open l c lists section a guarded h =
-    h.first.bare (guarded section (slice_get_within l.sections section h.is h.in_table) h.is h.list h.in_table h.listed a (one_got (reads_of h.list) h.first.index a h.first.at))
+    h.first.bare (guarded section (slice_get_within l.sections section h.is h.in_table) h.is h.list h.in_table h.listed a (subst (λ (xs : List Lock). IsOne xs a) (sym h.first.parts) (first_one h.first.front h.first.rest a)))
 
 pub checked_only : (is : List Item) (k_limit : ℕ) (image : Image) (fault : CheckFault) → IsChecked is k_limit image → IsRefusedLists is k_limit image fault → IsOutOfMemory fault
 checked_only is k_limit image (Infer fault) h r = accepted is k_limit fault h.covered.of_tree.accepted r
@@ -111,7 +110,6 @@ checked_only is k_limit image (Unguarded section x) h r =
     let a = h.covered.of_tree.analysis in let q = a.program in
     absurd (not_open q.lowering q.classes image.lists section x h.guarded
     (same_analysis is q.lowering q.classes a.stores q.lowers q.are_classes a.tells (λ l c s. IsFirstOpen l c image.lists section x) r.covered.of_tree.analysis r.open_at))
-checked_only is k_limit image OutOfMemory h r = tt
 
 pub only_memory : (is : List Item) (k : Lowered) (k_limit : ℕ) (image : Image) → IsLowering is k → IsLegalLowering k → IsAccepted is k_limit → IsInferredFor is k_limit image → (fault : CheckFault) → IsRefusedLists is k_limit image fault → IsOutOfMemory fault
 only_memory is k k_limit image lowers kept accept h fault refused = checked_only is k_limit image fault (inferred_checked is k k_limit image lowers kept accept h) refused

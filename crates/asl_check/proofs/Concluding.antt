@@ -9,10 +9,10 @@ use Rattle.asl_backward_flow.specs.Flows.{IsFlow}
 use Rattle.asl_emitter.specs.Inferred.{Analysis}
 use Rattle.asl_emitter.specs.Refused.{IsAccepted}
 use Rattle.asl_check.specs.declared.fault.CheckFault.{CheckFault}
-use Rattle.asl_check.specs.declared.fault.CheckFault.TheVariants.{Infer, OtherCode, Uncovered, Unguarded, OutOfMemory}
+use Rattle.asl_check.specs.declared.fault.CheckFault.TheVariants.{Infer, OtherCode, Uncovered, Unguarded}
 use Rattle.asl_check.specs.Checked.{IsCodeOf, AreGuarded, IsOtherCode}
 use Rattle.asl_check.specs.KnownLists.{AreCovered, IsUncovered, IsUnguarded}
-use Rattle.asl_check.specs.Refused.{IsOfTree, IsChecked, IsOther, IsRefusedLists}
+use Rattle.asl_check.specs.Refused.{IsChecked, IsOther, IsRefusedLists}
 use Rattle.asl_check.proofs.Covering.{stand_over, bare_lacking}
 
 module _ (is : List Item) (l : Lowered) (c : Classed) (k_limit : ℕ) (parts : List RegionNeeds) (lowers : IsLowering is l) (are : AreClasses l c) (flow : IsFlow l c k_limit parts) (accepted : IsAccepted is k_limit) where
@@ -21,9 +21,6 @@ module _ (is : List Item) (l : Lowered) (c : Classed) (k_limit : ℕ) (parts : L
 
   pub is_other : (image : Image) (pc : ℕ) → IsOtherCode l c image pc → IsOther is k_limit image pc
   is_other image pc other = record { accepted = accepted; analysis = analysis; other = other }
-
-  of_tree : (image : Image) → IsCodeOf l c image → IsOfTree is k_limit image
-  of_tree image code = record { accepted = accepted; analysis = analysis; code = code }
 
   pub is_checked : (image : Image) → IsCodeOf l c image → AreCovered l c parts image.lists (length l.sections) → AreGuarded l c image.lists (length l.sections) → IsChecked is k_limit image
   is_checked image code covered guarded =
@@ -40,7 +37,6 @@ module _ (is : List Item) (l : Lowered) (c : Classed) (k_limit : ℕ) (parts : L
   is_unguarded image code covered (Uncovered section lock) h = absurd h
   is_unguarded image code covered (Infer fault) h = absurd h
   is_unguarded image code covered (OtherCode pc) h = absurd h
-  is_unguarded image code covered OutOfMemory h = of_tree image code
 
   pub is_uncovered : (image : Image) → IsCodeOf l c image → (fault : CheckFault) → IsUncovered l c parts image.lists fault → IsRefusedLists is k_limit image fault
   is_uncovered image code (Uncovered section lock) h = record {
@@ -50,4 +46,3 @@ module _ (is : List Item) (l : Lowered) (c : Classed) (k_limit : ℕ) (parts : L
   is_uncovered image code (Unguarded section lock) h = absurd h
   is_uncovered image code (Infer fault) h = absurd h
   is_uncovered image code (OtherCode pc) h = absurd h
-  is_uncovered image code OutOfMemory h = of_tree image code

@@ -24,18 +24,11 @@ use Rattle.asl_code.specs.Locks.{effect_of}
 use Rattle.asl_code.specs.declared.lock.Lock.TheVariants as lock
 use Rattle.asl_lock_expr.specs.ClassOf.{class_of}
 use Rattle.asl_soundness.specs.Covering.{covers_effect, CoversLock}
-use Rattle.asl_emitter.specs.Lists.{SufficesFor, IsReduced}
-use Rattle.asl_emitter.proofs.Absorbing.{IsOver, effect_trans, reduced_covers}
-use Rattle.asl_emitter.proofs.Fits.{reduced_same}
+use Rattle.asl_emitter.specs.Lists.{Locks, SufficesFor}
+use Rattle.asl_emitter.proofs.Absorbing.{effect_trans}
 use Rattle.asl_emitter.proofs.Making.{told_needed}
-use Rattle.asl_check.specs.Checked.{AreUnder, IsFirstBare, reads_of, IsCodeOf, FirstListsCover, AreGuarded, IsFirstLacking, IsFirstOpen}
+use Rattle.asl_check.specs.Checked.{AreUnder, LacksFirst, IsFirstBare, reads_of, IsCodeOf, FirstListsCover, AreGuarded, IsFirstLacking, IsFirstOpen}
 use Rattle.asl_check.specs.KnownLists.{AreCovered, IsBare}
-
--- a list that covers what the flow says at an entry covers what the parts tell there
-pub under_told : (c : Classed) (f : ℕ) (list given needed : List Lock) (parts : List RegionNeeds) (n acquire entry : ℕ) → given ≡ needed → ((a : Lock) → IsOne needed a ↔ IsTold parts (Inside n) (entry + 1) a) → entry ≡ acquire →
-    AreUnder c f list (IsOne given) → AreUnder c f list (IsTold parts (Inside n) (acquire + 1))
-under_told c f list given needed parts n acquire entry is tells same under a told =
-    under a (subst (λ (xs : List Lock). IsOne xs a) (sym is) ((tells a).1 (subst (λ q. IsTold parts (Inside n) (q + 1) a) (sym same) told)))
 
 -- what covers a lock covers all for which that one does
 does_effect : (c : Classed) (f : ℕ) (a b : Lock) → SufficesFor c f a b → IsTrue (covers_effect (effect_of a) (effect_of b))
@@ -47,7 +40,7 @@ does_effect c f (lock.Expr a e) (lock.Class x g) d = absurd d
 does_effect c f (lock.Expr a e) (lock.Root g) d = absurd d
 does_effect c f (lock.Root e) b d = absurd d
 
-stands_trans : (c : Classed) (f : ℕ) (m a b : Lock) → CoversLock c f m a → SufficesFor c f a b → CoversLock c f m b
+pub stands_trans : (c : Classed) (f : ℕ) (m a b : Lock) → CoversLock c f m a → SufficesFor c f a b → CoversLock c f m b
 stands_trans c f (lock.Root e) a b p d = effect_trans e (effect_of a) (effect_of b) p (does_effect c f a b d)
 stands_trans c f (lock.Class x e) (lock.Class y g) (lock.Class z h) p q = (p.0 ∙ q.0, effect_trans e g h p.1 q.1)
 stands_trans c f (lock.Class x e) (lock.Class y g) (lock.Expr b h) p q = (q.0 ∙ ap (λ k. Some k) (sym p.0), effect_trans e g h p.1 q.1)
@@ -61,17 +54,6 @@ stands_trans c f (lock.Expr a e) (lock.Expr b g) (lock.Class d h) p q = absurd q
 stands_trans c f (lock.Expr a e) (lock.Expr b g) (lock.Root h) p q = absurd q
 stands_trans c f (lock.Expr a e) (lock.Class b g) d p q = absurd p
 stands_trans c f (lock.Expr a e) (lock.Root g) d p q = absurd p
-
-stands_all : (c : Classed) (f : ℕ) (m a b : Lock) → CoversLock c f m a → IsOver c f a b → CoversLock c f m b
-stands_all c f m a b p (inl e) = subst (CoversLock c f m) e p
-stands_all c f m a b p (inr d) = stands_trans c f m a b p d
-
--- so a list that covers what is left of a set covers the set
-pub under_reduced : (c : Classed) (f : ℕ) (list given reduced : List Lock) → IsReduced c f (IsOne given) reduced → AreUnder c f list (IsOne reduced) → AreUnder c f list (IsOne given)
-under_reduced c f list given reduced r under a o =
-    let k = reduced_covers c f (IsOne given) reduced r a o in
-    let u = under k.0 k.1 in
-    (u.0, u.1, stands_all c f u.0 k.0 a u.2 k.2)
 
 -- one list more
 pub covered_more : (l : Lowered) (c : Classed) (parts : List RegionNeeds) (lists : List (List Lock)) (n : ℕ) (s : Section) (listed list : List Lock) → AreCovered l c parts lists n →
@@ -91,17 +73,14 @@ covered_more l c parts lists n s listed list old there at is under m lt t ls sec
         (subst (λ (xs : List Lock). AreUnder c s.function xs (IsTold parts (Inside n) (s.acquire + 1))) (is ∙ two) under))
 
 -- the same of what lists read
-pub guarded_more : (l : Lowered) (c : Classed) (lists : List (List Lock)) (n : ℕ) (s : Section) (listed list reads given : List Lock) → AreGuarded l c lists n →
-    slice_get l.sections n ≡ Some s → slice_get lists n ≡ Some listed → list ≡ listed → given ≡ reads → reads ≡ reads_of list → AreUnder c s.function list (IsOne given) → AreGuarded l c lists (n + 1)
-guarded_more l c lists n s listed list reads given old there at is same all under m lt t ls section own =
+pub guarded_more : (l : Lowered) (c : Classed) (lists : List (List Lock)) (n : ℕ) (s : Section) (listed list : List Lock) → AreGuarded l c lists n →
+    slice_get l.sections n ≡ Some s → slice_get lists n ≡ Some listed → list ≡ listed → AreUnder c s.function list (IsOne (reads_of list)) → AreGuarded l c lists (n + 1)
+guarded_more l c lists n s listed list old there at is over m lt t ls section own =
     elim (eqb_tells m n) [
       | inl equal ↦ last (equal.1)
       | inr apart ↦ (let other = apart.1 in old m (omega (arith, lt, other)) t ls section own)
     ]
   where
-    over : AreUnder c s.function list (IsOne (reads_of list))
-    over n o = under n (subst (λ (xs : List Lock). IsOne xs n) (sym (same ∙ all)) o)
-
     last : m ≡ n → AreUnder c t.function ls (IsOne (reads_of ls))
     last equal =
         let one : s ≡ t = (let u : Some s ≡ Some t = sym there ∙ subst (λ k. slice_get l.sections k ≡ Some t) equal section in cc) in
@@ -110,42 +89,41 @@ guarded_more l c lists n s listed list reads given old there at is same all unde
         (subst (λ (xs : List Lock). AreUnder c s.function xs (IsOne (reads_of xs))) (is ∙ two) over)
 
 -- the first of the locks that are read that no lock of the list covers
-pub open_lock : (l : Lowered) (c : Classed) (lists : List (List Lock)) (n : ℕ) (s : Section) (listed list reads given : List Lock) (lock copy : Lock) → AreGuarded l c lists n →
-    slice_get l.sections n ≡ Some s → slice_get lists n ≡ Some listed → list ≡ listed → given ≡ reads → reads ≡ reads_of list →
-    copy ≡ lock → IsFirstBare c s.function list given lock → IsFirstOpen l c lists n copy
-open_lock l c lists n s listed list reads given lock copy earlier there at is same all copied first = record {
+pub open_lock : (l : Lowered) (c : Classed) (lists : List (List Lock)) (n : ℕ) (s : Section) (listed list : List Lock) (lock : Lock) → AreGuarded l c lists n →
+    slice_get l.sections n ≡ Some s → slice_get lists n ≡ Some listed → list ≡ listed → IsFirstBare c s.function list (reads_of list) lock → IsFirstOpen l c lists n lock
+open_lock l c lists n s listed list lock earlier there at is first = record {
   is = s;
   in_table = there;
   list = listed;
   listed = at;
   earlier = earlier;
-  first = subst (λ (xs : List Lock). IsFirstBare c s.function xs (reads_of xs) copy) is
-      (subst (λ (xs : List Lock). IsFirstBare c s.function list xs copy) (same ∙ all) (subst (λ (a : Lock). IsFirstBare c s.function list given a) (sym copied) first));
+  first = subst (λ (xs : List Lock). IsFirstBare c s.function xs (reads_of xs) lock) is first;
 }
 
--- what the flow says at an entry is what its parts tell there
-entry_told : (parts : List RegionNeeds) (n acquire entry : ℕ) (given all : List Lock) → given ≡ all → ((a : Lock) → IsOne all a ↔ IsTold parts (Inside n) (entry + 1) a) → entry ≡ acquire →
-    (a : Lock) → IsOne given a ↔ IsTold parts (Inside n) (acquire + 1) a
-entry_told parts n acquire entry given all have tells same a =
-    subst (λ q. IsOne given a ↔ IsTold parts (Inside n) (q + 1) a) same (subst (λ (xs : List Lock). IsOne xs a ↔ IsTold parts (Inside n) (entry + 1) a) (sym have) (tells a))
+-- what is said of a set is said of one with the same locks
+pub lacks_same : (c : Classed) (f : ℕ) (list : List Lock) (given other : Locks) (lock : Lock) → ((n : Lock) → given n ↔ other n) → LacksFirst c f list given lock → LacksFirst c f list other lock
+lacks_same c f list given other lock same h = record {
+  is = (same lock).0 h.is;
+  free = λ b o. h.free b ((same b).1 o);
+  bare = h.bare;
+  before = λ n o free less. h.before n ((same n).1 o) (λ b g. free b ((same b).0 g)) less;
+}
 
 -- the first of the locks that are told that no lock of the list covers
-pub bare_lock : (l : Lowered) (c : Classed) (parts : List RegionNeeds) (lists : List (List Lock)) (n : ℕ) (s : Section) (listed list given all reduced handed : List Lock) (entry : ℕ) (lock copy : Lock) → AreCovered l c parts lists n →
-    slice_get l.sections n ≡ Some s → slice_get lists n ≡ Some listed → list ≡ listed → given ≡ all → ((a : Lock) → IsOne all a ↔ IsTold parts (Inside n) (entry + 1) a) → entry ≡ s.acquire →
-    IsReduced c s.function (IsOne given) reduced → handed ≡ reduced → copy ≡ lock → IsFirstBare c s.function list handed lock → IsBare l c parts lists n copy
-bare_lock l c parts lists n s listed list given all reduced handed entry lock copy earlier there at is have tells same r second copied first = record {
+pub bare_lock : (l : Lowered) (c : Classed) (parts : List RegionNeeds) (lists : List (List Lock)) (n : ℕ) (s : Section) (listed list : List Lock) (entry : ℕ) (lock : Lock) → AreCovered l c parts lists n →
+    slice_get l.sections n ≡ Some s → slice_get lists n ≡ Some listed → list ≡ listed → entry ≡ s.acquire →
+    LacksFirst c s.function list (IsTold parts (Inside n) (entry + 1)) lock → IsBare l c parts lists n lock
+bare_lock l c parts lists n s listed list entry lock earlier there at is same first = record {
   is = s;
   in_table = there;
   list = listed;
   listed = at;
   earlier = earlier;
-  needed = reduced;
-  reduced = reduced_same c s.function (IsOne given) (IsTold parts (Inside n) (s.acquire + 1)) reduced (entry_told parts n s.acquire entry given all have tells same) r;
-  first = subst (λ (xs : List Lock). IsFirstBare c s.function xs reduced copy) is
-      (subst (λ (xs : List Lock). IsFirstBare c s.function list xs copy) second (subst (λ (a : Lock). IsFirstBare c s.function list handed a) (sym copied) first));
+  first = subst (λ (xs : List Lock). LacksFirst c s.function xs (IsTold parts (Inside n) (s.acquire + 1)) lock) is
+      (subst (λ q. LacksFirst c s.function list (IsTold parts (Inside n) (q + 1)) lock) same first);
 }
 
--- lists that cover what is reported cover what is needed
+-- lists that cover what is told cover what is needed
 pub over_first : (l : Lowered) (c : Classed) (stores : ℕ → ℕ → Bool) (k_limit : ℕ) (parts : List RegionNeeds) (lists : List (List Lock)) (so_many : ℕ) → TellsNeeded l c stores k_limit parts →
     AreCovered l c parts lists so_many → FirstListsCover l c (Needed l c stores k_limit) lists so_many
 over_first l c stores k_limit parts lists so_many tells covered n lt s list there at a needed =
@@ -156,7 +134,7 @@ pub stand_over : (l : Lowered) (c : Classed) (stores : ℕ → ℕ → Bool) (k_
 stand_over l c stores k_limit parts image tells covered n s list a there at needed =
     over_first l c stores k_limit parts image.lists (length l.sections) tells covered n (slice_get_within l.sections n s there) s list there at a needed
 
--- and the first lock that is reported and lacking is the first that is needed and lacking
+-- and the first lock that is told and lacking is the first that is needed and lacking
 pub bare_lacking : (l : Lowered) (c : Classed) (stores : ℕ → ℕ → Bool) (k_limit : ℕ) (parts : List RegionNeeds) (lists : List (List Lock)) (n : ℕ) (lock : Lock) → TellsNeeded l c stores k_limit parts →
     IsBare l c parts lists n lock → IsFirstLacking l c (Needed l c stores k_limit) lists n lock
 bare_lacking l c stores k_limit parts lists n lock tells h = record {
@@ -165,10 +143,8 @@ bare_lacking l c stores k_limit parts lists n lock tells h = record {
   list = h.list;
   listed = h.listed;
   earlier = over_first l c stores k_limit parts lists n tells h.earlier;
-  needed = h.needed;
-  reduced = reduced_same c h.is.function (IsTold parts (Inside n) (h.is.acquire + 1)) (Needed l c stores k_limit (Inside n) (suc h.is.acquire)) h.needed
-      (λ a. told_needed l c stores k_limit parts tells (Inside n) h.is.acquire a) h.reduced;
-  first = h.first;
+  first = lacks_same c h.is.function h.list (IsTold parts (Inside n) (h.is.acquire + 1)) (Needed l c stores k_limit (Inside n) (suc h.is.acquire)) lock
+      (λ a. (λ told. (told_needed l c stores k_limit parts tells (Inside n) h.is.acquire a).0 told, λ needed. (told_needed l c stores k_limit parts tells (Inside n) h.is.acquire a).1 needed)) h.first;
 }
 
 -- a verified image that is the lowering's but for its lists
@@ -183,7 +159,7 @@ image_of l c image are verified m = record {
   code = m.code;
 }
 
--- where its lists cover what is reported, it is analysed
+-- where its lists cover what is told, it is analysed
 pub covered_analysed : (l : Lowered) (c : Classed) (k_limit : ℕ) (parts : List RegionNeeds) (image : Image) → IsLegalLowering l → AreClasses l c → IsVerified image → (flow : IsFlow l c k_limit parts) → IsCodeOf l c image →
     AreCovered l c parts image.lists (length l.sections) → IsAnalysed l c flow.stores k_limit (Needed l c flow.stores k_limit) image
 covered_analysed l c k_limit parts image kept are verified flow m covered =

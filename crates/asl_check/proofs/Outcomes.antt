@@ -1,5 +1,7 @@
 -- A program has one refusal of its code and its lists.
-use Rattle.std.proofs.Common.{◌≡◌, ◌⊎◌, ◌<◌, ℕ, zero, suc, List, [], ◌∷◌, Some, take, slice_get, ap, ap₂, sym, ◌∙◌, subst, inl, inr, arith}
+use Rattle.std.proofs.Common.{◌≡◌, ◌⊎◌, ◌<◌, ℕ, suc, List, [], ◌∷◌, ◌++◌, Some, slice_get, refl, ap, ap₂, sym, ◌∙◌, subst, inl, inr, arith}
+use Rattle.std.specs.Ordering.{ordering_reverse}
+use Rattle.std.specs.declared.cmp.Ordering.TheVariants.{Less, Equal, Greater}
 use Rattle.asl_code.specs.declared.image.Image.{Image}
 use Rattle.asl_code.specs.declared.instr.Instr.{Instr}
 use Rattle.asl_code.specs.declared.lock.Lock.{Lock}
@@ -9,34 +11,41 @@ use Rattle.asl_lower.specs.Lowered.{Lowered}
 use Rattle.asl_lower.specs.Regions.{Inside}
 use Rattle.asl_points_to.specs.Classes.{Classed}
 use Rattle.asl_lock_expr.specs.Links.{IsOne}
+use Rattle.asl_lock_expr.specs.Order.{lock_cmp}
+use Rattle.asl_lock_expr.proofs.Orders.{lock_total, lock_exact}
 use Rattle.asl_backward_flow.specs.Closed.{Family}
 use Rattle.asl_backward_flow.specs.Needed.{Needed}
-use Rattle.asl_emitter.specs.Lists.{IsReduced}
-use Rattle.asl_emitter.proofs.Fits.{reduced_one}
+use Rattle.asl_emitter.specs.Lists.{Locks}
 use Rattle.asl_check.specs.declared.fault.CheckFault.{CheckFault}
-use Rattle.asl_check.specs.declared.fault.CheckFault.TheVariants.{Infer, OtherCode, Uncovered, Unguarded, OutOfMemory}
-use Rattle.asl_check.specs.Checked.{IsFirstBare, IsFirstOther, reads_of, IsCodeOf, IsOtherCode, IsFirstLacking, IsFirstOpen}
+use Rattle.asl_check.specs.declared.fault.CheckFault.TheVariants.{Infer, OtherCode, Uncovered, Unguarded}
+use Rattle.asl_check.specs.Checked.{IsUnderOne, AreUnder, IsFirstBare, LacksFirst, IsFirstOther, reads_of, IsCodeOf, IsOtherCode, IsFirstLacking, IsFirstOpen}
 use Rattle.asl_check.specs.Refused.{IsRefusedLists, IsOfProgram}
-use Rattle.asl_check.proofs.Complete.{same_analysis, one_got, not_other, not_lacking}
+use Rattle.asl_check.proofs.Complete.{same_analysis, first_one, not_other, not_lacking}
 
 apart : (m n : ℕ) → (m ≡ n) ⊎ ((m < n) ⊎ (n < m))
 apart m n = grind arith
 
-one_taken : (xs : List Lock) (i j : ℕ) (a : Lock) → slice_get xs i ≡ Some a → i < j → IsOne (take j xs) a
-one_taken [] i j a e lt = cc
-one_taken (x ∷ xs) i zero a e lt = absurd (omega (arith, lt))
-one_taken (x ∷ xs) zero (suc j) a e lt = inl (cc)
-one_taken (x ∷ xs) (suc i) (suc j) a e lt = inr (one_taken xs i j a e (omega (arith, lt)))
+-- of the locks of a list one alone is the first that is not covered
+one_bare : (c : Classed) (f : ℕ) (list front others rest more : List Lock) (a b : Lock) → front ++ a ∷ rest ≡ others ++ b ∷ more → AreUnder c f list (IsOne front) → AreUnder c f list (IsOne others) →
+    ¬ IsUnderOne c f list a → ¬ IsUnderOne c f list b → a ≡ b
+one_bare c f list [] [] rest more a b e p q x y = cc
+one_bare c f list [] (o ∷ others) rest more a b e p q x y = let same : o ≡ a = cc in absurd (x (q a (inl same)))
+one_bare c f list (o ∷ front) [] rest more a b e p q x y = let same : o ≡ b = cc in absurd (y (p b (inl same)))
+one_bare c f list (o ∷ front) (k ∷ others) rest more a b e p q x y =
+    let tail : front ++ a ∷ rest ≡ others ++ b ∷ more = cc in
+    one_bare c f list front others rest more a b tail (λ n h. p n (inr h)) (λ n h. q n (inr h)) x y
 
 one_first : (c : Classed) (f : ℕ) (list locks : List Lock) (a b : Lock) → IsFirstBare c f list locks a → IsFirstBare c f list locks b → a ≡ b
-one_first c f list locks a b p q =
-    elim (apart p.index q.index) [
-      | inl e ↦ (let same : Some a ≡ Some b = sym p.at ∙ ap (slice_get locks) e ∙ q.at in cc)
-      | inr d ↦ elim d [
-        | inl lt ↦ absurd (p.bare (q.before a (one_taken locks p.index q.index a p.at lt)))
-        | inr gt ↦ absurd (q.bare (p.before b (one_taken locks q.index p.index b q.at gt)))
-      ]
-    ]
+one_first c f list locks a b p q = one_bare c f list p.front q.front p.rest q.rest a b (sym p.parts ∙ q.parts) p.before q.before p.bare q.bare
+
+-- of the locks of a set one alone is the first that is lacking
+one_lack : (c : Classed) (f : ℕ) (list : List Lock) (given : Locks) (a b : Lock) → LacksFirst c f list given a → LacksFirst c f list given b → a ≡ b
+one_lack c f list given a b p q =
+    elim (lock_cmp a b) as (λ o. lock_cmp a b ≡ o → a ≡ b) [
+      | Less ↦ λ e. absurd (p.bare (q.before a p.is p.free e))
+      | Equal ↦ λ e. lock_exact a b e
+      | Greater ↦ λ e. absurd (q.bare (p.before b q.is q.free (lock_total.antisymm b a ∙ ap ordering_reverse e)))
+    ] refl
 
 one_other : (code other : List Instr) (m n : ℕ) → IsFirstOther code other m → IsFirstOther code other n → m ≡ n
 one_other code other m n p q =
@@ -63,8 +72,8 @@ one_lacking l c K lists m n a b p q =
     elim (apart m n) [
       | inl e ↦ (e, at_one p (subst (λ k. IsFirstLacking l c K lists k b) (sym e) q))
       | inr d ↦ elim d [
-        | inl lt ↦ absurd (p.first.bare (q.earlier m lt p.is p.list p.in_table p.listed a (p.reduced.kept a (one_got p.needed p.first.index a p.first.at)).0))
-        | inr gt ↦ absurd (q.first.bare (p.earlier n gt q.is q.list q.in_table q.listed b (q.reduced.kept b (one_got q.needed q.first.index b q.first.at)).0))
+        | inl lt ↦ absurd (p.first.bare (q.earlier m lt p.is p.list p.in_table p.listed a p.first.is))
+        | inr gt ↦ absurd (q.first.bare (p.earlier n gt q.is q.list q.in_table q.listed b q.first.is))
       ]
     ]
   where
@@ -72,23 +81,23 @@ one_lacking l c K lists m n a b p q =
     at_one p q =
         let s = same_section l m q.is p.is q.in_table p.in_table in
         let xs = same_list lists m q.list p.list q.listed p.listed in
-        let reduced = subst (λ (t : Section). IsReduced c t.function (K (Inside m) (suc t.acquire)) q.needed) s q.reduced in
-        let needed = reduced_one c p.is.function (K (Inside m) (suc p.is.acquire)) (K (Inside m) (suc p.is.acquire)) q.needed p.needed (λ a. (λ x. x, λ x. x)) reduced p.reduced in
-        one_first c p.is.function p.list p.needed a b p.first
-        (subst (λ (ks : List Lock). IsFirstBare c p.is.function p.list ks b) needed
-        (subst (λ (ys : List Lock). IsFirstBare c p.is.function ys q.needed b) xs
-        (subst (λ (t : Section). IsFirstBare c t.function q.list q.needed b) s q.first)))
+        one_lack c p.is.function p.list (K (Inside m) (suc p.is.acquire)) a b p.first
+        (subst (λ (ys : List Lock). LacksFirst c p.is.function ys (K (Inside m) (suc p.is.acquire)) b) xs
+        (subst (λ (t : Section). LacksFirst c t.function q.list (K (Inside m) (suc t.acquire)) b) s q.first))
 
 one_open : (l : Lowered) (c : Classed) (lists : List (List Lock)) (m n : ℕ) (a b : Lock) → IsFirstOpen l c lists m a → IsFirstOpen l c lists n b → (m ≡ n) × (a ≡ b)
 one_open l c lists m n a b p q =
     elim (apart m n) [
       | inl e ↦ (e, at_one p (subst (λ k. IsFirstOpen l c lists k b) (sym e) q))
       | inr d ↦ elim d [
-        | inl lt ↦ absurd (p.first.bare (q.earlier m lt p.is p.list p.in_table p.listed a (one_got (reads_of p.list) p.first.index a p.first.at)))
-        | inr gt ↦ absurd (q.first.bare (p.earlier n gt q.is q.list q.in_table q.listed b (one_got (reads_of q.list) q.first.index b q.first.at)))
+        | inl lt ↦ absurd (p.first.bare (q.earlier m lt p.is p.list p.in_table p.listed a (is_read p.first)))
+        | inr gt ↦ absurd (q.first.bare (p.earlier n gt q.is q.list q.in_table q.listed b (is_read q.first)))
       ]
     ]
   where
+    is_read : {f : ℕ} {list : List Lock} {x : Lock} → IsFirstBare c f list (reads_of list) x → IsOne (reads_of list) x
+    is_read {f} {list} {x} h = subst (λ (xs : List Lock). IsOne xs x) (sym h.parts) (first_one h.front h.rest x)
+
     at_one : IsFirstOpen l c lists m a → IsFirstOpen l c lists m b → a ≡ b
     at_one p q =
         let s = same_section l m q.is p.is q.in_table p.in_table in
@@ -99,9 +108,7 @@ one_open l c lists m n a b p q =
 
 pub one_refusal : (is : List Item) (k_limit : ℕ) (image : Image) (fault other : CheckFault) → IsOfProgram fault → IsOfProgram other → IsRefusedLists is k_limit image fault → IsRefusedLists is k_limit image other → fault ≡ other
 one_refusal is k_limit image (Infer f) other d e p q = absurd d
-one_refusal is k_limit image OutOfMemory other d e p q = absurd d
 one_refusal is k_limit image (OtherCode m) (Infer g) d e p q = absurd e
-one_refusal is k_limit image (OtherCode m) OutOfMemory d e p q = absurd e
 one_refusal is k_limit image (OtherCode m) (OtherCode n) d e p q =
     let a = p.analysis in let k = a.program in
     ap OtherCode (one_code k.lowering k.classes image m n p.other
@@ -115,7 +122,6 @@ one_refusal is k_limit image (OtherCode m) (Unguarded n b) d e p q =
     absurd (not_other k.lowering k.classes image m
     (same_analysis is k.lowering k.classes a.stores k.lowers k.are_classes a.tells (λ l c s. IsCodeOf l c image) q.covered.of_tree.analysis q.covered.of_tree.code) p.other)
 one_refusal is k_limit image (Uncovered m b) (Infer g) d e p q = absurd e
-one_refusal is k_limit image (Uncovered m b) OutOfMemory d e p q = absurd e
 one_refusal is k_limit image (Uncovered m b) (OtherCode n) d e p q =
     let a = q.analysis in let k = a.program in
     absurd (not_other k.lowering k.classes image n
@@ -130,7 +136,6 @@ one_refusal is k_limit image (Uncovered m x) (Unguarded n y) d e p q =
     absurd (not_lacking k.lowering k.classes a.stores k_limit image m x q.covered.over
     (same_analysis is k.lowering k.classes a.stores k.lowers k.are_classes a.tells (λ l c s. IsFirstLacking l c (Needed l c s k_limit) image.lists m x) p.of_tree.analysis p.lacking))
 one_refusal is k_limit image (Unguarded m b) (Infer g) d e p q = absurd e
-one_refusal is k_limit image (Unguarded m b) OutOfMemory d e p q = absurd e
 one_refusal is k_limit image (Unguarded m b) (OtherCode n) d e p q =
     let a = q.analysis in let k = a.program in
     absurd (not_other k.lowering k.classes image n

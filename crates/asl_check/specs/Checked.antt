@@ -1,6 +1,7 @@
 -- Which program is a tree's but for its lists, and which lists are enough for what its sections need (docs/ANALYSIS.md, "Lists of your own").
-use Rattle.std.specs.Prelude.{◌≡◌, ◌≢◌, ◌<◌, ◌⊎◌, ℕ, suc, List, length, map, take, Some, slice_get}
+use Rattle.std.specs.Prelude.{◌≡◌, ◌≢◌, ◌<◌, ◌⊎◌, ◌++◌, ◌∷◌, ℕ, suc, List, length, map, Some, slice_get}
 use Rattle.std.specs.List.{flat_map}
+use Rattle.std.specs.declared.cmp.Ordering.TheVariants.{Less}
 use Rattle.asl_code.specs.declared.image.Image.{Image}
 use Rattle.asl_code.specs.declared.instr.Instr.{Instr}
 use Rattle.asl_code.specs.declared.lock.Lock.{Lock}
@@ -10,10 +11,11 @@ use Rattle.asl_lower.specs.Lowered.{Lowered}
 use Rattle.asl_lower.specs.Regions.{Inside}
 use Rattle.asl_points_to.specs.Classes.{Classed}
 use Rattle.asl_lock_expr.specs.Links.{IsOne, dereferenced}
+use Rattle.asl_lock_expr.specs.Order.{lock_cmp}
 use Rattle.asl_backward_flow.specs.Closed.{Family}
 use Rattle.asl_soundness.specs.Coded.{classed}
 use Rattle.asl_soundness.specs.Covering.{CoversLock}
-use Rattle.asl_emitter.specs.Lists.{Locks, IsReduced}
+use Rattle.asl_emitter.specs.Lists.{Locks, IsFree}
 
 -- a lock of the list covers this one
 abbrev pub IsUnderOne : Classed → ℕ → List Lock → Lock → Type 0
@@ -25,10 +27,18 @@ AreUnder c f list given = (n : Lock) → given n → IsUnderOne c f list n
 
 -- the lock is the first of these that no lock of the list covers
 pub record IsFirstBare (c : Classed) (f : ℕ) (list locks : List Lock) (lock : Lock) : Type 0 where
-  pub index : ℕ
-  pub at : slice_get locks index ≡ Some lock
-  pub before : AreUnder c f list (IsOne (take index locks))
+  pub front : List Lock
+  pub rest : List Lock
+  pub parts : locks ≡ front ++ lock ∷ rest
+  pub before : AreUnder c f list (IsOne front)
   pub bare : ¬ IsUnderOne c f list lock
+
+-- of the locks of the set that no other of it absorbs, this is the first in the order of locks that no lock of the list covers
+pub record LacksFirst (c : Classed) (f : ℕ) (list : List Lock) (given : Locks) (lock : Lock) : Type 0 where
+  pub is : given lock
+  pub free : IsFree c f given lock
+  pub bare : ¬ IsUnderOne c f list lock
+  pub before : (n : Lock) → given n → IsFree c f given n → lock_cmp n lock ≡ Less → IsUnderOne c f list n
 
 -- the locks that are read when the expressions of a list are evaluated, in this order
 abbrev pub reads_of : List Lock → List Lock
@@ -71,17 +81,14 @@ AreGuarded l c lists so_many =
     (n : ℕ) → n < so_many → (s : Section) (list : List Lock) → slice_get l.sections n ≡ Some s → slice_get lists n ≡ Some list →
     AreUnder c s.function list (IsOne (reads_of list))
 
--- the section is the first whose list does not cover what the family has after its `acq`, and the lock is the first in the
--- order of lists, of those that no other of them absorbs, that no lock of the list covers
+-- the section is the first whose list does not cover what the family has after its `acq`, and the lock is the first that it lacks
 pub record IsFirstLacking (l : Lowered) (c : Classed) (K : Family) (lists : List (List Lock)) (section : ℕ) (lock : Lock) : Type 0 where
   pub is : Section
   pub in_table : slice_get l.sections section ≡ Some is
   pub list : List Lock
   pub listed : slice_get lists section ≡ Some list
   pub earlier : FirstListsCover l c K lists section
-  pub needed : List Lock
-  pub reduced : IsReduced c is.function (K (Inside section) (suc is.acquire)) needed
-  pub first : IsFirstBare c is.function list needed lock
+  pub first : LacksFirst c is.function list (K (Inside section) (suc is.acquire)) lock
 
 -- the section is the first whose list does not cover what its own expressions read, and the lock is the first that they read
 -- that no lock of the list covers

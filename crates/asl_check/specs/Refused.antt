@@ -9,7 +9,7 @@ use Rattle.asl_emitter.specs.Refused.{IsAccepted, IsRefusedInference as IsNotInf
 use Rattle.asl_emitter.specs.declared.fault.InferFault.TheVariants as infer
 use Rattle.asl_soundness.specs.Safe.{ListsCover}
 use Rattle.asl_check.specs.declared.fault.CheckFault.{CheckFault}
-use Rattle.asl_check.specs.declared.fault.CheckFault.TheVariants.{Infer, OtherCode, Uncovered, Unguarded, OutOfMemory}
+use Rattle.asl_check.specs.declared.fault.CheckFault.TheVariants.{Infer, OtherCode, Uncovered, Unguarded}
 use Rattle.asl_check.specs.Checked.{IsCodeOf, IsOtherCode, AreGuarded, IsFirstLacking, IsFirstOpen}
 
 -- the tree is accepted, and the image is its image but for its lists
@@ -51,23 +51,20 @@ pub record Reads (is : List Item) (k_limit : ℕ) (image : Image) (section : ℕ
   pub covered : IsCovered is k_limit image
   pub open_at : IsFirstOpen covered.of_tree.analysis.program.lowering covered.of_tree.analysis.program.classes image.lists section lock
 
--- the program is not checked for this reason; `OutOfMemory` hides no fault of the tree, and no code that is another's;
--- `Infer(OutOfMemory)` may hide all that comes after the tree's lowering
+-- the program is not checked for this reason, the first in the order in which a program is judged; `Infer(OutOfMemory)` may hide all that
+-- comes after the tree's lowering
 abbrev pub IsRefusedLists : List Item → ℕ → Image → CheckFault → Type 0
 IsRefusedLists is k_limit image (Infer fault) = IsNotInferred is k_limit fault
 IsRefusedLists is k_limit image (OtherCode pc) = IsOther is k_limit image pc
 IsRefusedLists is k_limit image (Uncovered section lock) = Lacks is k_limit image section lock
 IsRefusedLists is k_limit image (Unguarded section lock) = Reads is k_limit image section lock
-IsRefusedLists is k_limit image OutOfMemory = IsOfTree is k_limit image
 
 -- the memory ran out
 abbrev pub IsOutOfMemory : CheckFault → Type 0
 IsOutOfMemory (Infer fault) = fault ≡ infer.OutOfMemory
-IsOutOfMemory OutOfMemory = Unit {0}
 IsOutOfMemory fault = ⊥
 
 -- it is of the program's code or of its lists
 abbrev pub IsOfProgram : CheckFault → Type 0
 IsOfProgram (Infer fault) = ⊥
-IsOfProgram OutOfMemory = ⊥
 IsOfProgram fault = Unit {0}

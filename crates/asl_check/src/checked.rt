@@ -30,7 +30,8 @@ use std::alloc::Global;
 ///
 /// # Errors
 ///
-/// The first fault, in the order of `CheckFault`; `OutOfMemory` where an allocation failed.
+/// The first fault, in the order of `CheckFault`; `OutOfMemory` of the inference where an allocation failed. Once it is known
+/// what the sections need, no memory is asked for.
 pub fn check(alloc: Global, ast: &Ast<'_>, program: &Program, k: u32) -> Result<(), CheckFault>
     requires { k ≤ 8 }
     ensures safe { IfOk result (λ _. (count : ℕ) (events : List Event) (end : State)
@@ -47,12 +48,6 @@ pub fn check(alloc: Global, ast: &Ast<'_>, program: &Program, k: u32) -> Result<
         return Err(CheckFault::OtherCode(pc));
     }
     let lists = program.lists();
-    cover(
-        alloc,
-        &analysis.lowering,
-        &analysis.classes,
-        &analysis.flow,
-        lists,
-    )?;
-    guard(alloc, &analysis.lowering, &analysis.classes, lists)
+    cover(&analysis.lowering, &analysis.classes, &analysis.flow, lists)?;
+    guard(&analysis.lowering, &analysis.classes, lists)
 }

@@ -1,8 +1,7 @@
 //! Which lock covers another.
 ghost use Rattle.std.specs.Prelude.{◌↔◌, ◌<◌, IsTrue, MatchOption};
-ghost use Rattle.asl_lock_expr.specs.Links.{IsOne};
 ghost use Rattle.asl_soundness.specs.Covering.{CoversLock};
-ghost use Rattle.asl_check.specs.Checked.{IsUnderOne, AreUnder, IsFirstBare};
+ghost use Rattle.asl_check.specs.Checked.{IsUnderOne};
 
 use asl_code::{Lock, Op};
 use asl_emitter::{covers, suffices_for};
@@ -19,11 +18,11 @@ fn covers_lock(classes: &Classes, function: u16, lock: &Lock, other: &Lock) -> b
 }
 
 /// For how many numbers of `*` in a path there are likely places: for none to eight.
-const DEPTHS: usize = 9;
+pub const DEPTHS: usize = 9;
 
 /// Whether a lock of the list covers this one. `likely` has for each number of `*` in a path where the lock stands that covered the
 /// last such lock: locks that follow one another mostly lie under the same. It is tried first, and others only after it.
-fn is_under_one(
+pub fn is_under_one(
     classes: &Classes,
     function: u16,
     list: &[Lock],
@@ -82,25 +81,6 @@ fn cover_place(classes: &Classes, function: u16, list: &[Lock], lock: &Lock) -> 
             return Some(place);
         }
         place += 1;
-    }
-    None
-}
-
-/// The first of the locks that no lock of the list covers.
-pub fn first_bare<'a>(
-    classes: &Classes,
-    function: u16,
-    list: &[Lock],
-    locks: &'a [Lock],
-) -> Option<&'a Lock>
-    ensures { MatchOption result (AreUnder classes.now function list.now (IsOne locks.now))
-        (λ lock. IsFirstBare classes.now function list.now locks.now lock.now) }
-{
-    let mut likely = [0; DEPTHS];
-    for lock in locks {
-        if !is_under_one(classes, function, list, lock, &mut likely) {
-            return Some(lock);
-        }
     }
     None
 }

@@ -3,7 +3,6 @@
 use crate::spelled::Spelled;
 use asl_code::Lock;
 use asl_emitter::InferFault;
-use std::alloc::AllocError;
 use std::fmt;
 use std::fmt::Write;
 use thiserror::Error;
@@ -11,7 +10,7 @@ use thiserror::Error;
 /// Why a program is not checked: the first that applies, in this order. A lock is shown as an assembly text has it.
 #[derive(Drop, Error)]
 pub enum CheckFault {
-    /// No lists are inferred for the tree.
+    /// No lists are inferred for the tree. Only this can be lack of memory: what comes after it asks for none.
     #[error(transparent)]
     Infer(InferFault),
     /// The program is not the tree's: the first instruction that is another's, or the number of instructions where the code is
@@ -27,9 +26,6 @@ pub enum CheckFault {
     /// enough for what its section needs.
     #[error("Unguarded({0}, {lock})", lock = Spelled(.1))]
     Unguarded(u16, Lock),
-    /// The memory ran out.
-    #[error("OutOfMemory")]
-    OutOfMemory,
 }
 
 impl fmt::Debug for CheckFault {
@@ -46,16 +42,5 @@ impl From<InferFault> for CheckFault {
 
     fn from(fault: InferFault) -> CheckFault {
         CheckFault::Infer(fault)
-    }
-}
-
-impl From<AllocError> for CheckFault {
-    ghost use Rattle.std.specs.Prelude.{◌≡◌};
-    ghost use Rattle.asl_check.specs.declared.fault.CheckFault.TheVariants.{OutOfMemory};
-
-    ghost from_gives = { λ _ fault. fault ≡ OutOfMemory };
-
-    fn from(_failed: AllocError) -> CheckFault {
-        CheckFault::OutOfMemory
     }
 }

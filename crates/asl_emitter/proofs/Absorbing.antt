@@ -79,14 +79,14 @@ does_trans c f (lock.Expr a e) (lock.Root g) d p q = absurd p
 does_trans c f (lock.Root e) b d p q = absurd p
 
 -- how far a lock is from those that nothing absorbs
-rank : Lock → ℕ
+pub rank : Lock → ℕ
 rank (lock.Root effect) = 0
 rank (lock.Class class Write) = 0
 rank (lock.Class class Read) = 1
 rank (lock.Expr e Write) = 1
 rank (lock.Expr e Read) = 2
 
-absorbs_down : (c : Classed) (f : ℕ) (a b : Lock) → Absorbs c f a b → rank a < rank b
+pub absorbs_down : (c : Classed) (f : ℕ) (a b : Lock) → Absorbs c f a b → rank a < rank b
 unfolding rank
 absorbs_down c f (lock.Class x Write) (lock.Class y Write) p = absurd (p.different (ap (λ k. lock.Class k Write) p.does.0))
 absorbs_down c f (lock.Class x Read) (lock.Class y Read) p = absurd (p.different (ap (λ k. lock.Class k Read) p.does.0))

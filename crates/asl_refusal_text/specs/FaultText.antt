@@ -157,7 +157,6 @@ check_text (check.Infer cause) = infer_text cause
 check_text (check.OtherCode pc) = numbered (codes "OtherCode") pc
 check_text (check.Uncovered section l) = lacking_text (codes "Uncovered") section l
 check_text (check.Unguarded section l) = lacking_text (codes "Unguarded") section l
-check_text check.OutOfMemory = codes "OutOfMemory"
 
 -- of a journal
 abbrev pub journal_text : JournalFault → List ℕ

@@ -225,7 +225,6 @@ pub fn push_check(line: &mut Line, fault: &CheckFault) -> Result<(), CapacityErr
         CheckFault::OtherCode(pc) => push_numbered(line, "OtherCode", *pc),
         CheckFault::Uncovered(section, lock) => push_lacking(line, "Uncovered", *section, lock),
         CheckFault::Unguarded(section, lock) => push_lacking(line, "Unguarded", *section, lock),
-        CheckFault::OutOfMemory => push(line, "OutOfMemory"),
     }
 }
 

@@ -25,7 +25,6 @@ IsWantOfMemory (fault.Program (program.Image load.OutOfMemory)) = Unit {0}
 IsWantOfMemory (fault.Source syntax.OutOfMemory) = Unit {0}
 IsWantOfMemory (fault.Infer infer.OutOfMemory) = Unit {0}
 IsWantOfMemory (fault.Check (check.Infer infer.OutOfMemory)) = Unit {0}
-IsWantOfMemory (fault.Check check.OutOfMemory) = Unit {0}
 IsWantOfMemory (fault.Map (map.Source syntax.OutOfMemory)) = Unit {0}
 IsWantOfMemory (fault.Map (map.Lower lower.OutOfMemory)) = Unit {0}
 IsWantOfMemory (fault.Map (map.Classes classes.OutOfMemory)) = Unit {0}

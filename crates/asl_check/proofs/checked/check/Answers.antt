@@ -26,6 +26,9 @@ returns-in-Some-clause-refused c =
     let e = c.in_ok-analysis.ensures in
     is_other (tree_of c.args.ast.now) a.lowering a.classes c.args.k a.flow e.lowering e.classes e.flow e.accepted c.args.program.now c.in-Some.pc c.in-Some.ensures
 
+pub cover-requires-clause-parts : goal.cover-requires-clause-parts
+cover-requires-clause-parts c = c.in_ok-analysis.ensures.flow.apart
+
 pub returns-in_err-cover-clause-refused : goal.returns-in_err-cover-clause-refused
 returns-in_err-cover-clause-refused c =
     let a = c.in_ok-analysis.analysis in

@@ -1,11 +1,11 @@
-use Rattle.std.proofs.Common.{◌≡◌, List, Some, length, slice_get, get_or, ap, sym, ◌∙◌, subst, refl, arith}
+use Rattle.std.proofs.Common.{◌≡◌, ◌+◌, List, Some, length, slice_get, get_or, ap, sym, ◌∙◌, subst, refl, arith}
 use Rattle.std.proofs.lemmas.Option.{slice_get-get_or, slice_get_read}
 use Rattle.asl_lower.specs.declared.section.Section.{Section}
 use Rattle.asl_lower.proofs.Layouts.{kept_layout}
-use Rattle.asl_check.proofs.Covering.{under_told, under_reduced, covered_more, bare_lock}
-use Rattle.asl_code.specs.declared.lock.Lock.{Lock}
-use Rattle.asl_lock_expr.specs.Links.{IsOne}
+use Rattle.asl_lower.specs.Regions.{Inside}
+use Rattle.asl_backward_flow.specs.Needed.{IsTold}
 use Rattle.asl_check.specs.Checked.{AreUnder}
+use Rattle.asl_check.proofs.Covering.{covered_more, bare_lock}
 use Rattle.asl_check.proofs.covered.cover.Goals as goal
 
 pub overflow_cast-number : goal.overflow_cast-number
@@ -32,11 +32,10 @@ returns-in-Some-clause-uncovered c =
     ∙ slice_get-get_or c.sections-section-items.result.now n (record { function = 0; acquire = 0; release = 0 }) c.loop-number-test.true in
     let many = ap (length {A = Section}) c.sections-section-items.ensures.sections in
     let lt = c.loop-number-test.true in
-    let req = c.requires in
+    let req = c.requires.count in
     let at = slice_get_read c.args.lists.now (length c.args.lists.now) n c.index-lists-number.result refl (omega (arith, many, lt, req)) c.index-lists-number.is in
-    bare_lock l c.args.classes.now c.args.flow.now c.args.lists.now n s c.index-lists-number.result c.as_slice-list.result.now c.deref.result.now c.in_ok-all.all.items c.in_ok-needed.needed.items
-    c.deref-in-loop-number.result.now c.from-entry.result c.in-Some.lock.now c.in_ok-copied.field-0 c.loop-number.invariant there at c.as_slice-list.ensures c.deref.ensures.value c.in_ok-all.ensures.locks
-    c.from-entry.ensures c.in_ok-needed.ensures c.deref-in-loop-number.ensures.value c.in_ok-copied.ensures c.in-Some.ensures
+    bare_lock l c.args.classes.now c.args.flow.now c.args.lists.now n s c.index-lists-number.result c.as_slice-list.result.now c.from-entry.result c.in-Some.lock c.loop-number.invariant there at c.as_slice-list.ensures
+    c.from-entry.ensures c.in-Some.ensures
 
 pub loop-number-preserved : goal.loop-number-preserved
 loop-number-preserved c =
@@ -49,12 +48,10 @@ loop-number-preserved c =
     ∙ slice_get-get_or c.sections-section-items.result.now n (record { function = 0; acquire = 0; release = 0 }) c.loop-number-test.true in
     let many = ap (length {A = Section}) c.sections-section-items.ensures.sections in
     let lt = c.loop-number-test.true in
-    let req = c.requires in
+    let req = c.requires.count in
     let at = slice_get_read c.args.lists.now (length c.args.lists.now) n c.index-lists-number.result refl (omega (arith, many, lt, req)) c.index-lists-number.is in
     covered_more l k c.args.flow.now c.args.lists.now n s c.index-lists-number.result c.as_slice-list.result.now c.loop-number.invariant there at c.as_slice-list.ensures
-    (under_told k s.function c.as_slice-list.result.now c.deref.result.now c.in_ok-all.all.items c.args.flow.now n s.acquire c.from-entry.result c.deref.ensures.value c.in_ok-all.ensures.locks c.from-entry.ensures
-    (under_reduced k s.function c.as_slice-list.result.now c.deref.result.now c.in_ok-needed.needed.items c.in_ok-needed.ensures
-    (subst (λ (xs : List Lock). AreUnder k s.function c.as_slice-list.result.now (IsOne xs)) c.deref-in-loop-number.ensures.value c.in_default.ensures)))
+    (subst (λ q. AreUnder k s.function c.as_slice-list.result.now (IsTold c.args.flow.now (Inside n) (q + 1))) c.from-entry.ensures c.in_default.ensures)
 
 pub returns-clause-covered : goal.returns-clause-covered
 returns-clause-covered c = λ n lt.

@@ -24,8 +24,7 @@ returns-in-Some-clause-unguarded c =
     let lt = c.loop-number-test.true in
     let req = c.requires in
     let at = slice_get_read c.args.lists.now (length c.args.lists.now) n c.index-lists-number.result refl (omega (arith, many, lt, req)) c.index-lists-number.is in
-    open_lock l c.args.classes.now c.args.lists.now n s c.index-lists-number.result c.as_slice-list.result.now c.in_ok-reads.reads.items c.deref.result.now
-    c.in-Some.lock.now c.in_ok-copied.field-0 c.loop-number.invariant there at c.as_slice-list.ensures c.deref.ensures.value c.in_ok-reads.ensures c.in_ok-copied.ensures c.in-Some.ensures
+    open_lock l c.args.classes.now c.args.lists.now n s c.index-lists-number.result c.as_slice-list.result.now c.in-Some.lock c.loop-number.invariant there at c.as_slice-list.ensures c.in-Some.ensures
 
 pub loop-number-preserved : goal.loop-number-preserved
 loop-number-preserved c =
@@ -39,8 +38,7 @@ loop-number-preserved c =
     let lt = c.loop-number-test.true in
     let req = c.requires in
     let at = slice_get_read c.args.lists.now (length c.args.lists.now) n c.index-lists-number.result refl (omega (arith, many, lt, req)) c.index-lists-number.is in
-    guarded_more l c.args.classes.now c.args.lists.now n s c.index-lists-number.result c.as_slice-list.result.now c.in_ok-reads.reads.items c.deref.result.now c.loop-number.invariant there at c.as_slice-list.ensures
-    c.deref.ensures.value c.in_ok-reads.ensures c.in_default.ensures
+    guarded_more l c.args.classes.now c.args.lists.now n s c.index-lists-number.result c.as_slice-list.result.now c.loop-number.invariant there at c.as_slice-list.ensures c.in_default.ensures
 
 pub returns-clause-guarded : goal.returns-clause-guarded
 returns-clause-guarded c = λ n lt.
