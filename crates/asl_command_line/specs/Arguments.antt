@@ -9,6 +9,10 @@ use Rattle.clap.specs.declared.builder.action.ArgAction.TheVariants.{Set, SetTru
 abbrev pub value_rule : Text → Rule
 value_rule name = record (new_rule name) { long = Some name; action = Some Set; value_names = 1 }
 
+-- `--NAME VALUE`, any number of times
+abbrev pub values_rule : Text → Rule
+values_rule name = record (new_rule name) { long = Some name; action = Some Append; value_names = 1 }
+
 -- `--NAME VALUE`, which must be given
 abbrev pub needed_rule : Text → Rule
 needed_rule name = record (value_rule name) { required = true }
@@ -41,6 +45,10 @@ map_app = new_app (codes "map")
 -- `explain [--k K] [--all]`
 abbrev pub explain_app : App
 explain_app = with_rule (with_rule (new_app (codes "explain")) (value_rule (codes "k"))) (flag_rule (codes "all"))
+
+-- `lists [--k K] [--entry F]..`
+abbrev pub lists_app : App
+lists_app = with_rule (with_rule (new_app (codes "lists")) (value_rule (codes "k"))) (values_rule (codes "entry"))
 
 -- `diagnose [--k K] [--asm]`
 abbrev pub diagnose_app : App
@@ -92,7 +100,7 @@ bare_app = record {
 -- the program
 abbrev pub asl_app : App
 asl_app =
-    with_subcommand (with_subcommand (with_subcommand (with_subcommand (with_subcommand (with_subcommand (with_subcommand (with_subcommand (with_subcommand (with_subcommand
+    with_subcommand (with_subcommand (with_subcommand (with_subcommand (with_subcommand (with_subcommand (with_subcommand (with_subcommand (with_subcommand (with_subcommand (with_subcommand
     (with_subcommand (with_subcommand (with_subcommand bare_app
     compile_app.top) check_app.top) map_app.top) explain_app.top) diagnose_app.top) asm_app.top) dis_app.top) step_app.top) run_app.top) replay_app.top) log_app.top)
-    debug_app.top) c_app.top
+    debug_app.top) c_app.top) lists_app.top

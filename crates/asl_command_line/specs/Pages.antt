@@ -2,7 +2,7 @@
 use Rattle.std.specs.Prelude.{◌≡◌, ◌⊎◌, List, [], ◌∷◌, codes}
 use Rattle.clap.specs.Words.{Text}
 use Rattle.asl_command_line.specs.declared.help.TheConstants.{PROGRAM, ASM, DIS}
-use Rattle.asl_command_line.specs.declared.compile_help.TheConstants.{COMPILE, CHECK, MAP, EXPLAIN, DIAGNOSE, C}
+use Rattle.asl_command_line.specs.declared.compile_help.TheConstants.{COMPILE, CHECK, MAP, EXPLAIN, LISTS, DIAGNOSE, C}
 use Rattle.asl_command_line.specs.declared.run_help.TheConstants.{STEP, RUN, REPLAY, LOG, DEBUG}
 use Rattle.asl_command_line.specs.Names.{IsUnknown}
 
@@ -13,6 +13,7 @@ IsPage name text =
     ⊎ (((name ≡ codes "check") × (text ≡ CHECK.now))
     ⊎ (((name ≡ codes "map") × (text ≡ MAP.now))
     ⊎ (((name ≡ codes "explain") × (text ≡ EXPLAIN.now))
+    ⊎ (((name ≡ codes "lists") × (text ≡ LISTS.now))
     ⊎ (((name ≡ codes "diagnose") × (text ≡ DIAGNOSE.now))
     ⊎ (((name ≡ codes "c") × (text ≡ C.now))
     ⊎ (((name ≡ codes "asm") × (text ≡ ASM.now))
@@ -22,7 +23,7 @@ IsPage name text =
     ⊎ (((name ≡ codes "replay") × (text ≡ REPLAY.now))
     ⊎ (((name ≡ codes "log") × (text ≡ LOG.now))
     ⊎ (((name ≡ codes "debug") × (text ≡ DEBUG.now))
-    ⊎ (IsUnknown name × (text ≡ PROGRAM.now))))))))))))))
+    ⊎ (IsUnknown name × (text ≡ PROGRAM.now)))))))))))))))
 
 -- the text is the page of the command that the first word names, or else that of the program
 abbrev pub IsPageOf : List Text → Text → Type 0

@@ -1,5 +1,5 @@
 -- Machinery of the proofs, not of the promise: what private functions answer (src/number_words.rt, src/reading.rt).
-use Rattle.std.specs.Prelude.{◌≡◌, ◌≢◌, ℕ, List, [], ◌∷◌, ◌++◌, string_bytes}
+use Rattle.std.specs.Prelude.{◌≡◌, ◌≢◌, ℕ, false, codes, List, [], ◌∷◌, ◌++◌, Option, None, Some, string_bytes}
 use Rattle.std.specs.List.{Contains}
 use Rattle.clap.specs.Words.{Text}
 use Rattle.clap.specs.declared.error.kind.ErrorKind.{ErrorKind}
@@ -11,10 +11,12 @@ use Rattle.asl_command_line.specs.declared.number_words.NumbersFault.TheVariants
 use Rattle.asl_command_line.specs.declared.debug_word.DebugWord.{DebugWord}
 use Rattle.asl_command_line.specs.declared.debug_words.DebugWordsFault.{DebugWordsFault}
 use Rattle.asl_command_line.specs.declared.debug_words.DebugWordsFault.TheVariants as talk
+use Rattle.asl_command_line.specs.declared.entry_words.EntriesFault.{EntriesFault}
+use Rattle.asl_command_line.specs.declared.entry_words.EntriesFault.TheVariants as entries
 use Rattle.asl_command_line.specs.Number.{AreNumbers, IsNumber}
 use Rattle.asl_command_line.specs.Pages.{IsPageOf}
 use Rattle.asl_command_line.specs.Usage.{SaysWhereHelpIs}
-use Rattle.asl_command_line.specs.Words.{AreDebugWords, IsDebugWord, IsNoWord, TakesNumber}
+use Rattle.asl_command_line.specs.Words.{AreDebugWords, IsDebugWord, IsNoWord, TakesNumber, is_name}
 
 -- the words are no legal use, as this text says
 abbrev pub IsUsage : Text → Invocation → Type 0
@@ -39,6 +41,16 @@ IsNamedWord texts (talk.NoWord word) = Contains texts word.now × IsNoWord word.
 IsNamedWord texts (talk.NoNumber word) = Contains texts word.now × ((n : ℕ) → IsNumber word.now n → ⊥)
 IsNamedWord texts talk.NumberMissing = (word : Text) × (front : List Text) × (texts ≡ front ++ word ∷ []) × TakesNumber word
 IsNamedWord texts talk.OutOfMemory = Unit {0}
+
+-- the limit of paths that the word is
+abbrev pub IsLimit : Text → Option ℕ → Type 0
+IsLimit word None = word ≡ codes "auto"
+IsLimit word (Some k_limit) = IsNumber word k_limit
+
+-- the word that is named is one of the texts, and no name
+abbrev pub IsEntriesFault : List Text → EntriesFault → Type 0
+IsEntriesFault texts (entries.NoName word) = Contains texts word.now × (is_name word.now ≡ false)
+IsEntriesFault texts entries.OutOfMemory = Unit {0}
 
 -- why texts are no numbers; of lack of memory nothing is said
 abbrev pub IsNumbersFault : List Text → NumbersFault → Type 0

@@ -27,6 +27,14 @@ a_number = codes "not a number from 0 to 4294967295"
 abbrev pub a_length : Text
 a_length = codes "not a number from 0 to 8"
 
+-- what the length of a path must be where there is a longest one, too
+abbrev pub a_length_or_auto : Text
+a_length_or_auto = codes "neither a number from 0 to 8 nor auto"
+
+-- what an entry must be
+abbrev pub a_name : Text
+a_name = codes "not the name of a function"
+
 -- what a word of the debugger must be
 abbrev pub a_word : Text
 a_word = codes "not one of goto, forward, back, next, prev, break, clear, view, asks, stack, objects"

@@ -1,8 +1,9 @@
 -- What the words of a command line ask for (docs/CLI.md, "Commands"). What `clap` makes of words
 -- is reported by its own definitions: `fault_of` are the kinds of error that it may give, none where it takes the words, and
 -- `subcommand_of` is the command that they name, with the values of its arguments by their names.
-use Rattle.std.specs.Prelude.{string_bytes, ◌≡◌, ◌≢◌, ◌≤◌, ◌⊎◌, ℕ, Bool, true, false, List, [], ◌∷◌, ◌++◌, Option, None, Some, codes, unwrap_or, IsSomeAnd, MatchOption}
-use Rattle.std.specs.List.{Contains}
+use Rattle.std.specs.Char.{is_ascii_alphabetic, is_ascii_alphanumeric}
+use Rattle.std.specs.Prelude.{string_bytes, map, ◌&&◌, ◌||◌, ◌==◌, ◌≡◌, ◌≢◌, ◌≤◌, ◌⊎◌, ℕ, Bool, true, false, List, [], ◌∷◌, ◌++◌, Option, None, Some, codes, unwrap_or, IfSome, IsSomeAnd, MatchOption}
+use Rattle.std.specs.List.{All, Contains, list_all}
 use Rattle.clap.specs.Words.{Kinds, IsAmong, Row, Text, all_of, fault_of, first_of, one_of, subcommand_of}
 use Rattle.clap.specs.declared.error.kind.ErrorKind.{ErrorKind}
 use Rattle.clap.specs.declared.error.kind.ErrorKind.TheVariants.{DisplayHelp, DisplayVersion}
@@ -18,7 +19,7 @@ use Rattle.asl_command_line.specs.Number.{IsNumber, AreNumbers}
 use Rattle.asl_command_line.specs.Arguments.{asl_app}
 use Rattle.asl_command_line.specs.Names.{IsUnknown}
 use Rattle.asl_command_line.specs.Pages.{IsPageOf}
-use Rattle.asl_command_line.specs.Usage.{SaysWhereHelpIs, a_length, a_number, a_word, invalid_text, usage_text}
+use Rattle.asl_command_line.specs.Usage.{SaysWhereHelpIs, a_length, a_length_or_auto, a_name, a_number, a_word, invalid_text, usage_text}
 
 -- ---- the values of arguments
 
@@ -43,6 +44,28 @@ pub record IsFlagAt (name : Text) (rows : List Row) (given : Bool) : Type 0 wher
 -- how long paths may be: as `--k` says, and else 3
 abbrev pub IsLengthAt : List Row → ℕ → Type 0
 IsLengthAt rows k_limit = MatchOption (first_of (codes "k") rows) (k_limit ≡ 3) (λ text. IsNumber text k_limit)
+
+-- how long paths may be: as `--k` says, and else 3; `auto` sets no limit
+abbrev pub IsLimitAt : List Row → Option ℕ → Type 0
+IsLimitAt rows None = first_of (codes "k") rows ≡ Some (codes "auto")
+IsLimitAt rows (Some k_limit) = IsLengthAt rows k_limit
+
+-- a letter or `_`
+abbrev pub is_name_start : ℕ → Bool
+is_name_start byte = is_ascii_alphabetic byte || byte == 95
+
+-- a letter, a digit or `_`
+abbrev pub is_name_byte : ℕ → Bool
+is_name_byte byte = is_ascii_alphanumeric byte || byte == 95
+
+-- the text is a name of the source language, or one of its words
+abbrev pub is_name : Text → Bool
+is_name [] = false
+is_name (first ∷ rest) = is_name_start first && list_all is_name_byte rest
+
+-- the values of `--entry`, which are names
+abbrev pub AreEntriesAt : List Row → List Text → Type 0
+AreEntriesAt rows entries = (entries ≡ words_at (codes "entry") rows) × All (λ entry. is_name entry ≡ true) entries
 
 -- the words ask the debugger for this
 abbrev pub IsDebugWord : List Text → DebugWord → Type 0
@@ -78,6 +101,8 @@ IsCommand name rows (command.Check k_limit) = (name ≡ codes "check") × IsLeng
 IsCommand name rows command.Map = name ≡ codes "map"
 IsCommand name rows (command.Explain k_limit all) =
     (name ≡ codes "explain") × IsLengthAt rows k_limit × IsFlagAt (codes "all") rows all
+IsCommand name rows (command.Lists k_limit entries) =
+    (name ≡ codes "lists") × IsLimitAt rows k_limit × AreEntriesAt rows (map string_bytes entries.items)
 IsCommand name rows (command.Diagnose assembly k_limit) =
     (name ≡ codes "diagnose") × IsFlagAt (codes "asm") rows assembly × IsLengthAt rows k_limit
 IsCommand name rows (command.PrintC k_limit checks) =
@@ -113,6 +138,18 @@ pub record TellsNoLength (rows : List Row) (text : Text) : Type 0 where
   pub none : (k_limit : ℕ) → k_limit ≤ 8 → IsLengthAt rows k_limit → ⊥
   pub text_is : text ≡ invalid_text (value_at (codes "k") rows) (codes "--k <K>") a_length
 
+-- the text names the value of `--k`, which is no number, or one above 8, and not `auto`
+pub record TellsNoLimit (rows : List Row) (text : Text) : Type 0 where
+  pub none : (k_limit : Option ℕ) → IfSome k_limit (λ k. k ≤ 8) → IsLimitAt rows k_limit → ⊥
+  pub text_is : text ≡ invalid_text (value_at (codes "k") rows) (codes "--k <K>") a_length_or_auto
+
+-- the text names one of the values of `--entry`, which is no name
+pub record TellsNoEntry (rows : List Row) (text : Text) : Type 0 where
+  pub word : Text
+  pub its : Contains (words_at (codes "entry") rows) word
+  pub none : is_name word ≡ false
+  pub text_is : text ≡ invalid_text word (codes "--entry <F>") a_name
+
 -- the word asks the debugger for nothing, alone and with another after it
 pub record IsNoWord (name : Text) : Type 0 where
   pub alone : (asked : DebugWord) → IsDebugWord (name ∷ []) asked → ⊥
@@ -142,7 +179,8 @@ IsMisused name rows text =
     ⊎ (((name ≡ codes "run") × (TellsNoNumber (codes "threads") (codes "--threads <N>") rows text
     ⊎ (TellsNoNumber (codes "workers") (codes "--workers <W>") rows text ⊎ TellsNoNumber (codes "limit") (codes "--limit <L>") rows text)))
     ⊎ (((name ≡ codes "debug") × AskNothing rows × TellsNoWord (words_at (codes "words") rows) text)
-    ⊎ (IsUnknown name × (text ≡ usage_text (codes "the command is unknown"))))))
+    ⊎ ((IsUnknown name × (text ≡ usage_text (codes "the command is unknown")))
+    ⊎ ((name ≡ codes "lists") × (TellsNoLimit rows text ⊎ TellsNoEntry rows text))))))
 
 -- what the command of this name with these values asks for
 abbrev pub IsReading : Text → List Row → Invocation → Type 0

@@ -1,14 +1,15 @@
 //! The values of the arguments of a command.
-ghost use Rattle.std.specs.Prelude.{◌≡◌, ◌≤◌, ◌++◌, ℕ, IfOk, IfErr, MatchOption, codes, string_bytes};
+ghost use Rattle.std.specs.Prelude.{◌≡◌, ◌≤◌, ◌++◌, ℕ, map, Option, IfOk, IfErr, IfSome, MatchOption, codes, string_bytes};
 ghost use Rattle.clap.specs.Words.{found_of, rows_of};
-ghost use Rattle.asl_command_line.specs.Words.{AreDebugWords, IsFlagAt, IsLengthAt, IsNumberAt, value_at, words_at};
+ghost use Rattle.asl_command_line.specs.Words.{AreDebugWords, AreEntriesAt, IsFlagAt, IsLengthAt, IsLimitAt, IsNumberAt, value_at, words_at};
 ghost use Rattle.asl_command_line.specs.Number.{AreNumbers, IsNumber};
-ghost use Rattle.asl_command_line.specs.Reading.{IsDebugWordsFault, IsNamedNumber, IsNamedWord, IsNumbersFault, IsUsage};
+ghost use Rattle.asl_command_line.specs.Reading.{IsDebugWordsFault, IsEntriesFault, IsLimit, IsNamedNumber, IsNamedWord, IsNumbersFault, IsUsage};
 ghost use Rattle.asl_command_line.specs.Usage.{SaysWhereHelpIs, help_is_there, invalid_text, usage_text};
 
 use crate::command::Invocation;
 use crate::debug_word::DebugWord;
 use crate::debug_words::{DebugWordsFault, debug_words};
+use crate::entry_words::{EntriesFault, entries};
 use crate::number_words::{NumbersFault, number, numbers};
 use crate::path_limit::PathLimit;
 use clap::ArgMatches;
@@ -19,6 +20,12 @@ pub(crate) const A_NUMBER: &str = "not a number from 0 to 4294967295";
 
 /// What a length of paths must be.
 pub(crate) const A_PATH_LIMIT: &str = "not a number from 0 to 8";
+
+/// What a length of paths must be where there is a longest one, too.
+pub(crate) const A_PATH_LIMIT_OR_AUTO: &str = "neither a number from 0 to 8 nor auto";
+
+/// What an entry must be.
+pub(crate) const A_NAME: &str = "not the name of a function";
 
 /// Where usage is explained.
 pub(crate) const HELP_IS_THERE: &str = "For more information, try '--help'.\n";
@@ -64,6 +71,34 @@ pub(crate) fn k_limit_at<'a>(values: &ArgMatches<'a>) -> Result<PathLimit, &'a s
     }
 }
 
+/// The value of `--k`, or the value that is none; none where it is `auto`.
+pub(crate) fn some_k_limit_at<'a>(values: &ArgMatches<'a>) -> Result<Option<PathLimit>, &'a str>
+    ensures ok { IfOk result (IsLimitAt (rows_of (found_of values.now))) }
+    ensures err { IfErr result (λ _. (k_limit : Option ℕ) → IfSome k_limit (λ k. k ≤ 8) → IsLimitAt (rows_of (found_of values.now)) k_limit → ⊥) }
+    ensures named { IfErr result (λ word. word.now ≡ value_at (codes "k") (rows_of (found_of values.now))) }
+{
+    match values.get_str("k") {
+        Some(word) => match limit(word) {
+            Some(k_limit) => Ok(k_limit),
+            None => Err(word),
+        },
+        None => Ok(Some(PathLimit::usual())),
+    }
+}
+
+/// The limit that the word is, if it is one; none where it is `auto`.
+fn limit(word: &str) -> Option<Option<PathLimit>>
+    ensures { MatchOption result ((k : Option ℕ) → IfSome k (λ n. n ≤ 8) → IsLimit word.now k → ⊥) (IsLimit word.now) }
+{
+    if word == "auto" {
+        return Some(None);
+    }
+    match length(word) {
+        Some(k_limit) => Some(Some(k_limit)),
+        None => None,
+    }
+}
+
 /// The length of paths that the word is, if it is one.
 fn length(word: &str) -> Option<PathLimit>
     ensures { MatchOption result ((n : ℕ) → n ≤ 8 → IsNumber word.now n → ⊥) (λ k_limit. IsNumber word.now k_limit) }
@@ -86,6 +121,20 @@ pub(crate) fn numbers_at<'a>(
 {
     match values.get_strs(name) {
         Some(words) => numbers(alloc, words),
+        None => Ok(Vec::new(alloc)),
+    }
+}
+
+/// The values of `--entry`.
+pub(crate) fn entries_at<'a>(
+    alloc: Global,
+    values: &ArgMatches<'a>,
+) -> Result<Vec<String>, EntriesFault<'a>>
+    ensures ok { IfOk result (λ entries. AreEntriesAt (rows_of (found_of values.now)) (map string_bytes entries.items)) }
+    ensures err { IfErr result (IsEntriesFault (words_at (codes "entry") (rows_of (found_of values.now)))) }
+{
+    match values.get_strs("entry") {
+        Some(words) => entries(alloc, words),
         None => Ok(Vec::new(alloc)),
     }
 }

@@ -2,7 +2,7 @@
 ghost use Rattle.std.specs.Prelude.{◌≡◌, false, IfOk};
 ghost use Rattle.clap.specs.Words.{app_of, new_app, rule_of, with_rule, with_subcommand};
 ghost use Rattle.clap.specs.declared.builder.command.Command.TheViews.{out-Command};
-ghost use Rattle.asl_command_line.specs.Arguments.{asl_app, asm_app, bare_app, c_app, check_app, compile_app, debug_app, diagnose_app, dis_app, explain_app, flag_rule, log_app, map_app, needed_rule, replay_app, run_app, step_app, value_rule, words_rule};
+ghost use Rattle.asl_command_line.specs.Arguments.{asl_app, asm_app, bare_app, c_app, check_app, compile_app, debug_app, diagnose_app, dis_app, explain_app, flag_rule, lists_app, log_app, map_app, needed_rule, replay_app, run_app, step_app, value_rule, values_rule, words_rule};
 ghost use Rattle.asl_command_line.specs.Building.{IsBuilt};
 
 use crate::help;
@@ -26,7 +26,8 @@ pub fn program<'a>(alloc: Global) -> Result<Command<'a>, AllocError>
     let command = with_command(command, replay_command(alloc)?)?;
     let command = with_command(command, log_command(alloc)?)?;
     let command = with_command(command, debug_command(alloc)?)?;
-    with_command(command, c_command(alloc)?)
+    let command = with_command(command, c_command(alloc)?)?;
+    with_command(command, lists_command(alloc)?)
 }
 
 /// The program, before it has its commands.
@@ -70,6 +71,14 @@ fn explain_command<'a>(alloc: Global) -> Result<Command<'a>, AllocError>
     let command = named(alloc, "explain", "asl explain")?;
     let command = with_argument(command, value(alloc, "k", "K"))?;
     with_argument(command, flag(alloc, "all"))
+}
+
+fn lists_command<'a>(alloc: Global) -> Result<Command<'a>, AllocError>
+    ensures { IfOk result (λ command. IsBuilt command lists_app) }
+{
+    let command = named(alloc, "lists", "asl lists")?;
+    let command = with_argument(command, value(alloc, "k", "K"))?;
+    with_argument(command, values(alloc, "entry", "F"))
 }
 
 fn diagnose_command<'a>(alloc: Global) -> Result<Command<'a>, AllocError>
@@ -176,6 +185,17 @@ fn value<'a>(alloc: Global, name: &'a str, value: &'a str) -> Arg<'a>
         .long(name)
         .value_name(value)
         .action(ArgAction::Set)
+}
+
+/// `--NAME VALUE`, any number of times.
+fn values<'a>(alloc: Global, name: &'a str, value: &'a str) -> Arg<'a>
+    ensures rule { rule_of result ≡ values_rule name.entry.now }
+    ensures own { result.global ≡ false }
+{
+    Arg::new(alloc, name)
+        .long(name)
+        .value_name(value)
+        .action(ArgAction::Append)
 }
 
 /// `--NAME VALUE`, which must be given.

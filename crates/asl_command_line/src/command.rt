@@ -39,6 +39,13 @@ pub enum Command {
         /// Whether all chains of links are reported.
         all: bool,
     },
+    /// `lists`: the lists of the input, a source, as one JSON document.
+    Lists {
+        /// How many operations a lock's path has at most; none: as many as they may be.
+        k_limit: Option<PathLimit>,
+        /// The functions that are called from outside, where the source has no `main`.
+        entries: Vec<String>,
+    },
     /// `diagnose`: why the input, a source or an assembly text, is refused, as a person reads it; nothing where it is not.
     Diagnose {
         /// Whether the input is an assembly text.

@@ -134,6 +134,36 @@ pub const EXPLAIN: &str =
         \n\
         asl 2, proved in the logic dac8208d650f15bf\n";
 
+/// The page of the command `lists`.
+pub const LISTS: &str =
+    "Says all of a source's lists in one JSON document, for other programs to read\n\
+        \n\
+        Usage: asl lists [OPTIONS]\n\
+        \n\
+        Options:\n\
+        \u{20}     --k <K>      How many operations a path of a lock has at most, 0 to 8, or auto: as many as are accepted; 3 where it is not given\n\
+        \u{20}     --entry <F>  A function that is called from outside, of a source without main; may be given more than once\n\
+        \u{20} -h, --help       Print help\n\
+        \n\
+        Input: a source (docs/SOURCE.md)\n\
+        Output: a JSON document on one line: classes, functions, sections with their locks, and warnings (docs/lists.schema.json)\n\
+        \n\
+        Examples, from the top of the repository:\n\
+        \u{20} ./asl lists < examples/counter.asl\n\
+        \u{20} ./asl lists --k auto < examples/bank.asl | python3 -m json.tool\n\
+        \u{20} echo 'fn f(p) { atomic { x = *p; } return x; }' | ./asl lists --entry f\n\
+        \n\
+        Status: 0 done; 1 refused, with one line 'asl: NAME' on standard error; 2 wrong usage.\n\
+        \n\
+        Refusals, where several apply the first of them:\n\
+        \u{20} Read                      standard input failed\n\
+        \u{20} TooLong                   the input is longer than 268435456 bytes\n\
+        \u{20} NotAscii(n) .. TooManyLocks(r)  as for asl compile, of the source and what calls its entries\n\
+        \u{20} Write                     standard output failed; a part of the output may have been written\n\
+        \u{20} OutOfMemory               memory ran out\n\
+        \n\
+        asl 2, proved in the logic dac8208d650f15bf\n";
+
 /// The page of the command `diagnose`.
 pub const DIAGNOSE: &str =
     "Says where and why a source or an assembly text is at fault, and how to go on\n\

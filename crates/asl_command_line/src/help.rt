@@ -18,6 +18,7 @@ pub const PROGRAM: &str =
         \u{20} check     Checks the lists of a program against its source; where they are enough, no run faults for a missing lock\n\
         \u{20} map       Says what the numbers in a source's code stand for, and which piece of the text each instruction is of\n\
         \u{20} explain   Says for each lock of each list which statement needs it, and how it came to the section's start\n\
+        \u{20} lists     Says all of a source's lists in one JSON document, for other programs to read\n\
         \u{20} diagnose  Says where and why a source or an assembly text is at fault, and how to go on\n\
         \u{20} c         Prints a source as a C program, whose threads run natively under its inferred locks\n\
         \u{20} asm       Assembles a program\n\
@@ -120,6 +121,7 @@ fn page_named(name: &str) -> &'static str
         "check" => compile_help::CHECK,
         "map" => compile_help::MAP,
         "explain" => compile_help::EXPLAIN,
+        "lists" => compile_help::LISTS,
         "diagnose" => compile_help::DIAGNOSE,
         "c" => compile_help::C,
         "asm" => ASM,

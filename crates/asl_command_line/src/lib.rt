@@ -8,6 +8,7 @@ mod command;
 mod compile_help;
 mod debug_word;
 mod debug_words;
+mod entry_words;
 mod help;
 mod number_words;
 mod path_limit;

@@ -1,20 +1,23 @@
 //! Reads the words of a command line.
 ghost use Rattle.std.specs.Prelude.{◌≡◌, ◌≢◌, true, map, IfOk, string_bytes, codes};
 ghost use Rattle.clap.specs.Words.{found_of, kind_of, rows_of, subcommand_rows_of};
-ghost use Rattle.asl_command_line.specs.Words.{AsksFor, IsReading, IsTaken};
-ghost use Rattle.asl_command_line.specs.Reading.{IsRefusal};
-ghost use Rattle.asl_command_line.specs.Usage.{SaysWhereHelpIs};
+ghost use Rattle.asl_command_line.specs.Words.{AsksFor, IsLimitAt, IsReading, IsTaken};
+ghost use Rattle.asl_command_line.specs.Reading.{IsRefusal, IsUsage};
+ghost use Rattle.asl_command_line.specs.Usage.{SaysWhereHelpIs, a_name, invalid_text};
 
 use crate::apart::read_apart;
 use crate::argument_values::{
-    A_NUMBER, A_PATH_LIMIT, A_WORD, HELP_IS_THERE, debug_words_at, flag_at, invalid, k_limit_at,
-    number_at, numbers_at, with_help, wrong_usage,
+    A_NAME, A_NUMBER, A_PATH_LIMIT, A_PATH_LIMIT_OR_AUTO, A_WORD, HELP_IS_THERE, debug_words_at,
+    entries_at, flag_at, invalid, k_limit_at, number_at, numbers_at, some_k_limit_at, with_help,
+    wrong_usage,
 };
 use crate::arguments::program;
 use crate::command::{Command, Invocation, RunArguments};
 use crate::debug_words::DebugWordsFault;
+use crate::entry_words::EntriesFault;
 use crate::help::page_of;
 use crate::number_words::{NumbersFault, number};
+use crate::path_limit::PathLimit;
 use clap::error::ErrorKind;
 use clap::{ArgMatches, Error};
 use std::alloc::{AllocError, Global};
@@ -69,6 +72,7 @@ fn read_command(
         "check" => read_check(alloc, values),
         "map" => Ok(Invocation::Alone(Command::Map)),
         "explain" => read_explain(alloc, values),
+        "lists" => read_lists(alloc, values),
         "diagnose" => read_diagnose(alloc, values),
         "c" => read_c(alloc, values),
         "replay" => Ok(Invocation::Alone(Command::Replay)),
@@ -152,6 +156,39 @@ fn read_explain(alloc: Global, values: &ArgMatches<'_>) -> Result<Invocation, Al
             Ok(Invocation::Alone(Command::Explain { k_limit, all }))
         }
         Err(word) => invalid(alloc, word, "--k <K>", A_PATH_LIMIT),
+    }
+}
+
+fn read_lists(alloc: Global, values: &ArgMatches<'_>) -> Result<Invocation, AllocError>
+    ensures { IfOk result (IsReading (codes "lists") (rows_of (found_of values.now))) }
+{
+    let k_limit = match some_k_limit_at(values) {
+        Ok(k_limit) => k_limit,
+        Err(word) => return invalid(alloc, word, "--k <K>", A_PATH_LIMIT_OR_AUTO),
+    };
+    read_entries(alloc, values, k_limit)
+}
+
+/// Says that the word is no entry.
+fn no_entry(alloc: Global, word: &str) -> Result<Invocation, AllocError>
+    ensures { IfOk result (IsUsage (invalid_text word.now (codes "--entry <F>") a_name)) }
+{
+    invalid(alloc, word, "--entry <F>", A_NAME)
+}
+
+/// What `lists` is asked for, with paths of this length.
+fn read_entries(
+    alloc: Global,
+    values: &ArgMatches<'_>,
+    k_limit: Option<PathLimit>,
+) -> Result<Invocation, AllocError>
+    requires { IsLimitAt (rows_of (found_of values.now)) k_limit }
+    ensures { IfOk result (IsReading (codes "lists") (rows_of (found_of values.now))) }
+{
+    match entries_at(alloc, values) {
+        Ok(entries) => Ok(Invocation::Alone(Command::Lists { k_limit, entries })),
+        Err(EntriesFault::NoName(word)) => no_entry(alloc, word),
+        Err(EntriesFault::OutOfMemory) => Err(AllocError),
     }
 }
 

@@ -66,6 +66,7 @@ one_outcome texts bytes (command.Compile k_limit as_text) input o p settled all 
 one_outcome texts bytes (command.Check k_limit) input o p settled all x y = absurd settled
 one_outcome texts bytes command.Map input o p settled all x y = absurd settled
 one_outcome texts bytes (command.Explain k_limit all) input o p settled all_ x y = absurd settled
+one_outcome texts bytes (command.Lists k_limit entries) input o p settled all_ x y = absurd settled
 one_outcome texts bytes (command.Diagnose assembly k_limit) input o p settled all x y = absurd settled
 one_outcome texts bytes (command.PrintC k_limit checks) input o p settled all x y = absurd settled
 one_outcome texts bytes command.Replay input o p settled all x y =
@@ -203,6 +204,7 @@ some_outcome texts bytes (command.Compile k_limit as_text) input settled all = a
 some_outcome texts bytes (command.Check k_limit) input settled all = absurd settled
 some_outcome texts bytes command.Map input settled all = absurd settled
 some_outcome texts bytes (command.Explain k_limit all) input settled all_ = absurd settled
+some_outcome texts bytes (command.Lists k_limit entries) input settled all_ = absurd settled
 some_outcome texts bytes (command.Diagnose assembly k_limit) input settled all = absurd settled
 some_outcome texts bytes (command.PrintC k_limit checks) input settled all = absurd settled
 

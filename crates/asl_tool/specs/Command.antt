@@ -1,5 +1,5 @@
 -- What each command makes of an input, and why it may refuse to (docs/CLI.md, "Refusals").
-use Rattle.std.specs.Prelude.{◌≡◌, ℕ, true, List}
+use Rattle.std.specs.Prelude.{◌≡◌, ℕ, true, List, Option, map as each, string_bytes}
 use Rattle.asl_code.specs.declared.image.Image.{Image}
 use Rattle.asl_assembler.specs.Canonical.{canonical_text}
 use Rattle.asl_assembler.specs.Faults.{IsProgramText}
@@ -17,6 +17,8 @@ use Rattle.asl_diagnose.specs.RefusalText.{IsTold}
 use Rattle.asl_explain.specs.Told.{IsText}
 use Rattle.asl_explain.specs.Explained as explain
 use Rattle.asl_explain.specs.declared.fault.ExplainFault.TheVariants as why
+use Rattle.asl_lists.specs.Listed.{IsListed, IsRefusedLists}
+use Rattle.asl_lists.specs.declared.fault.ListsFault.TheVariants as lists
 use Rattle.asl_journal.specs.RunFile.{IsFileFault}
 use Rattle.asl_map.specs.Mapped.{IsMapText}
 use Rattle.asl_map.specs.Mapped as map
@@ -49,6 +51,7 @@ IsOutput (command.Compile k_limit as_text) input output = IsCompiled input k_lim
 IsOutput (command.Check k_limit) input text = IsChecked input k_limit text
 IsOutput command.Map input text = IsMapText input text
 IsOutput (command.Explain k_limit all) input text = IsText input k_limit text
+IsOutput (command.Lists k_limit entries) input text = IsListed input k_limit (each string_bytes entries.items) text
 IsOutput (command.Diagnose assembly k_limit) input text = IsTold input assembly k_limit text
 IsOutput (command.PrintC k_limit checks) input text = IsPrinted input k_limit checks text
 IsOutput command.Replay input text = IsReplayed input text
@@ -91,6 +94,13 @@ IsRefusedExplain input k_limit (fault.Source cause) = explain.IsRefusedExplanati
 IsRefusedExplain input k_limit (fault.Infer cause) = explain.IsRefusedExplanation input k_limit (why.Infer cause)
 IsRefusedExplain input k_limit f = ⊥
 
+-- what each refusal of `lists` says of the source
+abbrev pub IsRefusedListing : List ℕ → Option ℕ → List (List ℕ) → CommandFault → Type 0
+IsRefusedListing input k_limit entries (fault.Source cause) = IsRefusedLists input k_limit entries (lists.Refused (why.Source cause))
+IsRefusedListing input k_limit entries (fault.Infer cause) = IsRefusedLists input k_limit entries (lists.Refused (why.Infer cause))
+IsRefusedListing input k_limit entries fault.OutOfMemory = IsRefusedLists input k_limit entries lists.OutOfMemory
+IsRefusedListing input k_limit entries f = ⊥
+
 -- `diagnose` refuses no input: memory may run out, and that is all
 abbrev pub IsRefusedDiagnose : CommandFault → Type 0
 IsRefusedDiagnose fault.OutOfMemory = Unit {0}
@@ -112,6 +122,7 @@ IsRefusedCommand (command.Compile k_limit as_text) input f = IsRefusedSource inp
 IsRefusedCommand (command.Check k_limit) input f = IsRefusedCheck input k_limit f
 IsRefusedCommand command.Map input f = IsRefusedMap input f
 IsRefusedCommand (command.Explain k_limit all) input f = IsRefusedExplain input k_limit f
+IsRefusedCommand (command.Lists k_limit entries) input f = IsRefusedListing input k_limit (each string_bytes entries.items) f
 IsRefusedCommand (command.Diagnose assembly k_limit) input f = IsRefusedDiagnose f
 IsRefusedCommand (command.PrintC k_limit checks) input f = IsRefusedSource input k_limit f
 IsRefusedCommand command.Replay input f = IsRefusedReplay input f

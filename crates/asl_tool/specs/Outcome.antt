@@ -41,12 +41,13 @@ IsOutcome command input (Ok output) = IsOutput command input output
 IsOutcome command input (Err f) = IsRefusedCommand command input f × (IsWantOfMemory f → ⊥)
 
 -- the input alone settles the command's outcome: not that of `compile`, of `c` and of `check`, which name any one of the regions that need
--- too many locks; of `map`, `explain` and `diagnose` it is not said
+-- too many locks; of `map`, `explain`, `lists` and `diagnose` it is not said
 abbrev pub IsSettled : Command → Type 0
 IsSettled (command.Compile k_limit as_text) = ⊥
 IsSettled (command.Check k_limit) = ⊥
 IsSettled command.Map = ⊥
 IsSettled (command.Explain k_limit all) = ⊥
+IsSettled (command.Lists k_limit entries) = ⊥
 IsSettled (command.Diagnose assembly k_limit) = ⊥
 IsSettled (command.PrintC k_limit checks) = ⊥
 IsSettled c = Unit {0}

@@ -10,6 +10,7 @@ mod debug;
 mod diagnose;
 mod dis;
 mod explain;
+mod lists;
 mod log;
 mod map;
 mod replay;
@@ -42,6 +43,12 @@ pub fn output_of(alloc: Global, command: &Command, input: &[u8]) -> Result<Vec<u
         Command::Check { k_limit } => check::checked(alloc, k_limit, input),
         Command::Map => map::mapped_source(alloc, input),
         Command::Explain { k_limit, all } => explain::explained_source(alloc, k_limit, *all, input),
+        Command::Lists { k_limit, entries } => lists::listed_source(
+            alloc,
+            k_limit,
+            entries.as_slice(),
+            input,
+        ),
         Command::Diagnose { assembly, k_limit } => diagnose::diagnosed_input(
             alloc, *assembly, k_limit, input,
         ),

@@ -1,6 +1,6 @@
 //! Which words parse, and as what.
 use crate::outcomes::split;
-use asl_command_line::{Command, DebugWord, Invocation, Move, RunArguments, read_words};
+use asl_command_line::{Command, DebugWord, Invocation, Move, PathLimit, RunArguments, read_words};
 use std::alloc::Global;
 use std::process::Abort;
 
@@ -16,6 +16,7 @@ enum Wanted {
     Check(u32),
     Map,
     Explain(u32, bool),
+    Lists(Option<u32>, usize),
     Diagnose(bool, u32),
     PrintC(u32, bool),
     Debug(&'static [DebugWord]),
@@ -28,6 +29,14 @@ enum Wanted {
 
 /// Words, and what they must be read as.
 type Row = (&'static str, Wanted);
+
+/// The limit as a number, if there is one.
+fn limit_of(k_limit: &Option<PathLimit>) -> Option<u32> {
+    match k_limit {
+        Some(k_limit) => Some(k_limit.operations()),
+        None => None,
+    }
+}
 
 /// Whether the command is the one that is wanted.
 fn is_command(got: &Command, wanted: &Wanted) -> bool {
@@ -49,6 +58,9 @@ fn is_command(got: &Command, wanted: &Wanted) -> bool {
         Command::Map => matches!(wanted, Wanted::Map),
         Command::Explain { k_limit, all } => {
             matches!(wanted, Wanted::Explain(k, flag) if k_limit.operations() == *k && all == flag)
+        }
+        Command::Lists { k_limit, entries } => {
+            matches!(wanted, Wanted::Lists(k, count) if limit_of(k_limit) == *k && entries.len() == *count)
         }
         Command::PrintC { k_limit, checks } => {
             matches!(wanted, Wanted::PrintC(k, flag) if k_limit.operations() == *k && checks == flag)
@@ -295,7 +307,7 @@ fn compiling(rt: HostRuntime) {
     check(&rt, &COMPILATIONS);
 }
 
-static CHECKS: [Row; 21] = [
+static CHECKS: [Row; 28] = [
     ("check", Wanted::Check(3)),
     ("check --k 0", Wanted::Check(0)),
     ("check --k=8", Wanted::Check(8)),
@@ -309,6 +321,16 @@ static CHECKS: [Row; 21] = [
     ("explain --all --k 1", Wanted::Explain(1, true)),
     ("explain --k 9", Wanted::WrongUsage),
     ("explain --asm", Wanted::WrongUsage),
+    ("lists", Wanted::Lists(Some(3), 0)),
+    ("lists --k auto", Wanted::Lists(None, 0)),
+    (
+        "lists --entry f --k 8 --entry _g1",
+        Wanted::Lists(Some(8), 2),
+    ),
+    ("lists --k 9", Wanted::WrongUsage),
+    ("lists --k Auto", Wanted::WrongUsage),
+    ("lists --entry 1f", Wanted::WrongUsage),
+    ("lists f", Wanted::WrongUsage),
     ("c", Wanted::PrintC(3, false)),
     ("c --check --k 0", Wanted::PrintC(0, true)),
     ("c --k 9", Wanted::WrongUsage),

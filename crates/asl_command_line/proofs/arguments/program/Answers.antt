@@ -21,7 +21,8 @@ returns c =
     let with_replay = c.in_ok-command-11.ensures.app_is ∙ joined with_run c.in_ok-replay_command.ensures.app_is in
     let with_log = c.in_ok-command-12.ensures.app_is ∙ joined with_replay c.in_ok-log_command.ensures.app_is in
     let with_debug = c.in_ok-command-13.ensures.app_is ∙ joined with_log c.in_ok-debug_command.ensures.app_is in
-    IfOk-weaker c.with_command-13.result _ _ (λ command built. record {
-      app_is = built.app_is ∙ joined with_debug c.in_ok-c_command.ensures.app_is;
+    let with_c = c.in_ok-command-14.ensures.app_is ∙ joined with_debug c.in_ok-c_command.ensures.app_is in
+    IfOk-weaker c.with_command-14.result _ _ (λ command built. record {
+      app_is = built.app_is ∙ joined with_c c.in_ok-lists_command.ensures.app_is;
       local = built.local;
-    }) c.with_command-13.ensures
+    }) c.with_command-14.ensures
