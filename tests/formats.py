@@ -1,5 +1,5 @@
-"""The bytes of images, journals and run files, read by a program of its own from docs/BYTES.md, docs/JOURNAL.md and
-docs/LIMITS.md. `judge_*` answers the name of the first refusal, or None where the bytes are good."""
+"""The bytes of images, journals and run files, read by a program of its own from docs/FORMATS.md, docs/JOURNAL.md and
+docs/FORMATS.md. `judge_*` answers the name of the first refusal, or None where the bytes are good."""
 
 
 class Refusal(Exception):

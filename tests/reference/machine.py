@@ -1,4 +1,4 @@
-"""Images, the machine, run files and the debugger's words, by docs/BYTES.md, docs/INSTRUCTIONS.md, docs/LOCKS.md and
+"""Images, the machine, run files and the debugger's words, by docs/FORMATS.md, docs/INSTRUCTIONS.md, docs/LOCKS.md and
 docs/JOURNAL.md.
 
 A value is a whole number, None for null, or an Addr."""

@@ -1,4 +1,4 @@
--- The canonical text of an image: of all texts that spell it, the one that is written (docs/ASSEMBLY.md).
+-- The canonical text of an image: of all texts that spell it, the one that is written (docs/FORMATS.md).
 use Rattle.std.specs.Prelude.{ℕ, ◌<◌, ◌^◌, List, [], ◌∷◌, ◌++◌, take, drop, codes, FitsSigned}
 use Rattle.std.specs.Int.{w32}
 use Rattle.std.specs.List.{flat_map, AllByRecursion}

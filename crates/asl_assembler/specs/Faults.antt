@@ -1,4 +1,4 @@
--- Why a text is not a program, and what a text's one outcome is (docs/ASSEMBLY.md, docs/LIMITS.md).
+-- Why a text is not a program, and what a text's one outcome is (docs/FORMATS.md).
 use Rattle.std.specs.Prelude.{◌≢◌, ℕ, List, Result, Ok, Err}
 use Rattle.asl_code.specs.declared.image.Image.{Image}
 use Rattle.asl_code.specs.Verified.{IsVerified, IsAnswer}

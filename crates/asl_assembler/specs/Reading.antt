@@ -1,4 +1,4 @@
--- Machinery of the proofs, not of the promise: how a text is read, computed on lists (docs/ASSEMBLY.md). The
+-- Machinery of the proofs, not of the promise: how a text is read, computed on lists (docs/FORMATS.md). The
 -- lemmas of proofs/ lead from here to the definitions of specs/Words and specs/Text, which public calls cite.
 use Rattle.std.specs.Prelude.{◌≡◌, ℕ, ℤ, pos, neg_ℤ, ◌+◌, ◌-◌, ◌*◌, ◌^◌, Bool, true, false, not, ◌&&◌, ◌==◌, nat_lt, nat_le, ◌||◌, ◌⊎◌, List, [], ◌∷◌, ◌++◌, length, Option, Some, None, Result, Ok, Err, if◌then◌else◌, codes}
 use Rattle.std.specs.Option.{option_map}

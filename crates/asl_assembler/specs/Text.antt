@@ -1,4 +1,4 @@
--- Which assembly text spells which image, and which line of a text is wrong (docs/ASSEMBLY.md). See docs/DECISIONS.md.
+-- Which assembly text spells which image, and which line of a text is wrong (docs/FORMATS.md). See docs/DECISIONS.md.
 use Rattle.std.specs.Prelude.{◌≡◌, ℕ, ◌+◌, ◌-◌, ◌<◌, ◌≤◌, ◌^◌, ◌⊎◌, List, [], ◌∷◌, ◌++◌, length, map, take, min}
 use Rattle.std.specs.List.{flat_map}
 use Rattle.asl_code.specs.Operands.{Operand, operands}

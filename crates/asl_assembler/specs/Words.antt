@@ -1,4 +1,4 @@
--- Lines, words and numbers of an assembly text (docs/ASSEMBLY.md).
+-- Lines, words and numbers of an assembly text (docs/FORMATS.md).
 use Rattle.std.specs.Prelude.{◌≡◌, ℕ, ℤ, pos, neg_ℤ, ◌+◌, ◌-◌, ◌*◌, ◌^◌, ◌<◌, ◌≤◌, ◌⊎◌, Bool, false, not, ◌||◌, ◌==◌, IsTrue, List, [], ◌∷◌, length, codes, if◌then◌else◌}
 use Rattle.std.specs.List.{list_all}
 use Rattle.std.specs.Char.{is_ascii_digit}

@@ -1,5 +1,5 @@
 -- Machinery of the proofs, not of the promise: what the writers of src/ add to the text before, as parts of the
--- canonical text of specs/Canonical (docs/ASSEMBLY.md, "Canonical text").
+-- canonical text of specs/Canonical (docs/FORMATS.md, "Canonical text").
 use Rattle.std.specs.Prelude.{◌≡◌, ℕ, List, ◌++◌, codes}
 use Rattle.std.specs.List.{flat_map, AllByRecursion}
 use Rattle.asl_code.specs.declared.instr.Instr.{Instr}

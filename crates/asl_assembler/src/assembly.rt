@@ -38,7 +38,7 @@ fn line_or(text: &[u8], fault: AsmFault) -> AsmFault
     }
 }
 
-/// The program that an assembly text spells (`docs/ASSEMBLY.md`).
+/// The program that an assembly text spells (`docs/FORMATS.md`).
 ///
 /// # Errors
 ///

@@ -23,7 +23,7 @@ use std::alloc::{AllocError, Global};
 /// Bytes of text that are asked for at first for each instruction: lines are seldom longer.
 const LINE_ROOM: usize = 16;
 
-/// The canonical text of the program (`docs/ASSEMBLY.md`).
+/// The canonical text of the program (`docs/FORMATS.md`).
 ///
 /// # Errors
 ///

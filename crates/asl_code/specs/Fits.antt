@@ -1,5 +1,5 @@
 -- What a verified image is, read as facts: what it has, and what holds of the instruction at each place of its code
--- (docs/LIMITS.md, "Rules of an image"). The law verified_images_fit says that these images are the verified ones. See
+-- (docs/FORMATS.md, "Rules of an image"). The law verified_images_fit says that these images are the verified ones. See
 -- docs/INSTRUCTIONS.md.
 use Rattle.std.specs.Prelude.{◌≡◌, ℕ, ◌+◌, ◌<◌, ◌≤◌, false, List, length, Some, slice_get, All}
 use Rattle.std.specs.List.{AllByRecursion}

@@ -1,5 +1,5 @@
 -- Machinery of the proofs, not of the promise: how eight bytes are read as an instruction, computed
--- (docs/BYTES.md, "Instructions"). The lemmas of proofs/Instrs lead from here to the relations of specs/Spelling, which
+-- (docs/FORMATS.md, "Instructions"). The lemmas of proofs/Instrs lead from here to the relations of specs/Spelling, which
 -- public calls cite.
 use Rattle.std.specs.Prelude.{ℕ, zero, suc, Bool, not, ◌||◌, ◌==◌, nat_lt, if◌then◌else◌, List, [], ◌∷◌, Option, Some, None, Result, Ok, Err, slice_get, slice_index, drop}
 use Rattle.std.specs.Int.{w32, cast_signed, from_be_bytes}

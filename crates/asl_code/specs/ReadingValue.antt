@@ -1,5 +1,5 @@
 -- Machinery of the proofs, not of the promise: how the front of some bytes is read as a value, computed
--- (docs/BYTES.md, "Values"). The lemmas of proofs/Values lead from here to the relations of specs/Spelling, which public
+-- (docs/FORMATS.md, "Values"). The lemmas of proofs/Values lead from here to the relations of specs/Spelling, which public
 -- calls cite.
 use Rattle.std.specs.Prelude.{ℕ, zero, suc, nat_lt, if◌then◌else◌, List, [], ◌∷◌, length, take, slice_index, Result, Ok, Err}
 use Rattle.std.specs.Int.{w16, w32, from_be_bytes, cast_signed}

@@ -1,5 +1,5 @@
 -- Machinery of the proofs, not of the promise: what the verifier looks for in the code, one line of its table after the
--- other (docs/LIMITS.md, "Rules of an image"). What the verifier answers is in specs/Verified. See
+-- other (docs/FORMATS.md, "Rules of an image"). What the verifier answers is in specs/Verified. See
 -- docs/INSTRUCTIONS.md.
 use Rattle.std.specs.Prelude.{◌≡◌, ℕ, ◌≤◌, Bool, true, false, Option, MatchOption}
 use Rattle.asl_code.specs.Bodies.{Body}

@@ -1,4 +1,4 @@
--- The bytes of an instruction and of a value. All numbers are big-endian (docs/BYTES.md, "Instructions" and "Values").
+-- The bytes of an instruction and of a value. All numbers are big-endian (docs/FORMATS.md, "Instructions" and "Values").
 use Rattle.std.specs.Prelude.{◌≡◌, ◌≢◌, ℕ, ◌+◌, ◌<◌, ◌≤◌, ◌^◌, nat_lt, if◌then◌else◌, List, [], ◌∷◌, ◌++◌, length, take, FitsSigned}
 use Rattle.std.specs.Int.{w16, w32, to_be_bytes, cast_unsigned}
 use Rattle.std.specs.List.{AllByRecursion}

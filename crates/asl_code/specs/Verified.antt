@@ -1,5 +1,5 @@
 -- Which images may run. Each fault of the verifier is a test of the image, and an image is verified where no fault
--- applies (docs/LIMITS.md, "Rules of an image").
+-- applies (docs/FORMATS.md, "Rules of an image").
 use Rattle.std.specs.Prelude.{◌≡◌, ℕ, ◌+◌, ◌-◌, ◌<◌, ◌≤◌, ◌⊎◌, Bool, true, false, not, ◌&&◌, ◌==◌, nat_lt, nat_le, IsTrue, List, length, Option, Some, slice_get}
 use Rattle.std.specs.List.{list_all}
 use Rattle.std.specs.Option.{option_map_or}

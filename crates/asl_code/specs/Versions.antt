@@ -1,4 +1,4 @@
--- What a version of the format sets (docs/LIMITS.md, "Versions"). Nothing else depends on the version.
+-- What a version of the format sets (docs/FORMATS.md, "Versions"). Nothing else depends on the version.
 use Rattle.std.specs.Prelude.{◌≡◌, ◌⊎◌, ◌==◌, ℕ, Bool, true, false, nat_le, Option, None, Some, is_some, if◌then◌else◌}
 use Rattle.std.specs.Option.{option_map_or}
 use Rattle.asl_code.specs.declared.image_limits.Limits.{Limits}

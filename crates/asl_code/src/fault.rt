@@ -2,7 +2,7 @@
 
 use thiserror::Error;
 
-/// Why an image is not a program, in the order in which the verifier looks (`docs/LIMITS.md`, "Rules of an image").
+/// Why an image is not a program, in the order in which the verifier looks (`docs/FORMATS.md`, "Rules of an image").
 /// The last four name a place of the code.
 #[derive(Clone, Copy, Debug, PartialEq, Eq, Error)]
 pub enum VerifyFault {

@@ -66,7 +66,7 @@ pub const CHECK: &str =
         \u{20} NotAscii(n) .. NoMain     the first thing that is wrong with the source: asl compile --help\n\
         \u{20} Line(n)                   line n of the text is not as its place asks\n\
         \u{20} Magic .. Trailing(n)      the first thing that is wrong with an image: asl dis --help\n\
-        \u{20} Verify(RULE)              the program breaks a rule of docs/LIMITS.md\n\
+        \u{20} Verify(RULE)              the program breaks a rule of docs/FORMATS.md\n\
         \u{20} Registers(f) .. TooManyLocks(r)  no lists are inferred for the source: asl compile --help\n\
         \u{20} OtherCode(pc)             the instruction at pc is not the source's; the number of instructions where a table is not\n\
         \u{20} Uncovered(section, LOCK)  the section needs LOCK, and no lock of its list covers it\n\
@@ -175,7 +175,7 @@ pub const DIAGNOSE: &str =
         \u{20}     --asm    Takes the input as an assembly text, in place of a source\n\
         \u{20} -h, --help   Print help\n\
         \n\
-        Input: a source (docs/SOURCE.md), or with --asm an assembly text (docs/ASSEMBLY.md)\n\
+        Input: a source (docs/SOURCE.md), or with --asm an assembly text (docs/FORMATS.md)\n\
         Output: nothing where there is no fault; else line and column, both from 1, the fault's name, a sentence, the line of the text with a mark below the place, and what helps\n\
         \n\
         Examples, from the top of the repository:\n\

@@ -52,8 +52,8 @@ pub const ASM: &str = "Assembles a program\n\
         Options:\n\
         \u{20} -h, --help  Print help\n\
         \n\
-        Input: assembly text (docs/ASSEMBLY.md)\n\
-        Output: the image of its program (docs/BYTES.md)\n\
+        Input: assembly text (docs/FORMATS.md)\n\
+        Output: the image of its program (docs/FORMATS.md)\n\
         \n\
         Examples, from the top of the repository:\n\
         \u{20} ./asl asm < examples/counter.asm > counter.image\n\
@@ -65,7 +65,7 @@ pub const ASM: &str = "Assembles a program\n\
         \u{20} Read          standard input failed\n\
         \u{20} TooLong       the input is longer than 268435456 bytes\n\
         \u{20} Line(n)       line n of the text is not as its place asks\n\
-        \u{20} Verify(RULE)  the program breaks a rule of docs/LIMITS.md\n\
+        \u{20} Verify(RULE)  the program breaks a rule of docs/FORMATS.md\n\
         \u{20} Write         standard output failed; a part of the output may have been written\n\
         \u{20} OutOfMemory   memory ran out\n\
         \n\
@@ -79,8 +79,8 @@ pub const DIS: &str = "Disassembles an image\n\
         Options:\n\
         \u{20} -h, --help  Print help\n\
         \n\
-        Input: a program's image (docs/BYTES.md)\n\
-        Output: the canonical assembly text of its program (docs/ASSEMBLY.md)\n\
+        Input: a program's image (docs/FORMATS.md)\n\
+        Output: the canonical assembly text of its program (docs/FORMATS.md)\n\
         \n\
         Examples, from the top of the repository:\n\
         \u{20} ./asl compile < examples/counter.asl | ./asl dis\n\
@@ -95,7 +95,7 @@ pub const DIS: &str = "Disassembles an image\n\
         \u{20} Truncated(n)    the image ends too early, at byte n\n\
         \u{20} BadField(n)     the field at byte n of the image has a value that it cannot have\n\
         \u{20} Trailing(n)     there are bytes after the image, from byte n on\n\
-        \u{20} Verify(RULE)    the image breaks a rule of docs/LIMITS.md\n\
+        \u{20} Verify(RULE)    the image breaks a rule of docs/FORMATS.md\n\
         \u{20} Write           standard output failed; a part of the output may have been written\n\
         \u{20} OutOfMemory     memory ran out\n\
         \n\

@@ -27,7 +27,7 @@ pub const STEP: &str = "Steps the threads of a program in the given order\n\
         \u{20} TooLong               the input is longer than 268435456 bytes\n\
         \u{20} Line(n)               line n of the text is not as its place asks\n\
         \u{20} Magic .. Trailing(n)  the first thing that is wrong with an image: asl dis --help\n\
-        \u{20} Verify(RULE)          the program breaks a rule of docs/LIMITS.md\n\
+        \u{20} Verify(RULE)          the program breaks a rule of docs/FORMATS.md\n\
         \u{20} BadCount              the number of threads is 0, or above 64 for version 1 or 128 for version 2\n\
         \u{20} BadThread             one of the first 16777216 steps is of a thread that is not there\n\
         \u{20} JournalFull           there are more than 16777216 steps\n\
@@ -63,7 +63,7 @@ pub const RUN: &str =
         \u{20} TooLong               the input is longer than 268435456 bytes\n\
         \u{20} Line(n)               line n of the text is not as its place asks\n\
         \u{20} Magic .. Trailing(n)  the first thing that is wrong with an image: asl dis --help\n\
-        \u{20} Verify(RULE)          the program breaks a rule of docs/LIMITS.md\n\
+        \u{20} Verify(RULE)          the program breaks a rule of docs/FORMATS.md\n\
         \u{20} BadCount              threads as for step, workers not 1 to 8, or the limit is above 16777216\n\
         \u{20} Receipt(w)            worker w's receipts disagree with the journal or with the machine\n\
         \u{20} Spawn                 the system did not start a worker's thread\n\

@@ -1,4 +1,4 @@
--- Lines of an assembly text that are instructions (docs/ASSEMBLY.md), the instruction that a broken rule names, and the words of lines by
+-- Lines of an assembly text that are instructions (docs/FORMATS.md), the instruction that a broken rule names, and the words of lines by
 -- which a rule of the whole image may be broken.
 use Rattle.std.specs.Prelude.{◌≡◌, ℕ, suc, ◌+◌, List, [], ◌∷◌, ◌++◌, Bool, true, false, not, ◌||◌, ◌&&◌, bytes_eq, codes, length, Option, Some, None, if◌then◌else◌}
 use Rattle.std.specs.List.{All}

@@ -1,4 +1,4 @@
--- The bytes of an image, field by field, and what is wrong with bytes that are those of no program (docs/BYTES.md,
+-- The bytes of an image, field by field, and what is wrong with bytes that are those of no program (docs/FORMATS.md,
 -- "Images").
 use Rattle.std.specs.Prelude.{◌≡◌, ◌≢◌, ℕ, ◌+◌, ◌<◌, ◌≤◌, ◌^◌, List, [], ◌∷◌, ◌++◌, length}
 use Rattle.std.specs.List.{flat_map, AllByRecursion}

@@ -1,5 +1,5 @@
--- What is wrong with bytes that are those of no program, and what the one outcome of bytes is (docs/BYTES.md,
--- "Images"). See docs/LIMITS.md.
+-- What is wrong with bytes that are those of no program, and what the one outcome of bytes is (docs/FORMATS.md,
+-- "Images"). See docs/FORMATS.md.
 use Rattle.std.specs.Prelude.{◌≡◌, ◌≢◌, ℕ, ◌<◌, Bool, ◌&&◌, nat_le, IsTrue, List, length, take, All, Result, Ok, Err}
 use Rattle.std.specs.List.{list_all}
 use Rattle.asl_code.specs.declared.image.Image.{Image}

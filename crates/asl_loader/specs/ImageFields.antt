@@ -1,5 +1,5 @@
 -- Machinery of the proofs, not of the promise to users: reading an image from front to back, to the first field that is
--- cut or bad, computed (docs/BYTES.md, "Images"). The lemmas of proofs/ lead from here to the relations of specs/Bytes and
+-- cut or bad, computed (docs/FORMATS.md, "Images"). The lemmas of proofs/ lead from here to the relations of specs/Bytes and
 -- specs/Faults, which the calls for images cite.
 use Rattle.std.specs.Prelude.{◌≡◌, ◌⊎◌, ℕ, zero, suc, ◌-◌, Bool, false, IsTrue, nat_lt, ◌==◌, if◌then◌else◌, List, [], ◌∷◌, length, take, drop, Option, Result, Ok, Err}
 use Rattle.std.specs.Int.{w16}

@@ -1,4 +1,4 @@
--- What reads and writes the parts that images have in common with other formats (src/shared_fields.rt, docs/BYTES.md): a reader
+-- What reads and writes the parts that images have in common with other formats (src/shared_fields.rt, docs/FORMATS.md): a reader
 -- answers a value and the bytes after it, or that they end too early, or how many bytes are left at a bad field; a writer
 -- adds the fields of a thing to the bytes before.
 use Rattle.std.specs.Prelude.{◌≡◌, ℕ, zero, suc, Bool, nat_lt, ◌==◌, if◌then◌else◌, List, [], ◌∷◌, ◌++◌, length, take, drop, Option, Some, None, Result, Ok, Err}

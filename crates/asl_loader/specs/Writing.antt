@@ -1,4 +1,4 @@
--- Machinery of the proofs, not of the promise to users: what the writers of src/ add to the bytes before (docs/BYTES.md,
+-- Machinery of the proofs, not of the promise to users: what the writers of src/ add to the bytes before (docs/FORMATS.md,
 -- "Images").
 use Rattle.std.specs.Prelude.{◌≡◌, ℕ, ◌<◌, ◌^◌, List, ◌++◌, length}
 use Rattle.std.specs.List.{flat_map, AllByRecursion}

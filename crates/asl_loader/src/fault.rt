@@ -3,7 +3,7 @@
 use asl_code::VerifyFault;
 use thiserror::Error;
 
-/// Why bytes are those of no program: the first thing that is wrong, from front to back (`docs/BYTES.md`, "Images").
+/// Why bytes are those of no program: the first thing that is wrong, from front to back (`docs/FORMATS.md`, "Images").
 #[derive(Clone, Copy, Debug, PartialEq, Eq, Error)]
 pub enum LoadFault {
     /// The first field is not `ASLM`.

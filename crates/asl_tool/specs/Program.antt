@@ -1,4 +1,4 @@
--- Which program an input is (docs/BYTES.md, docs/ASSEMBLY.md), and what is wrong with one that is none.
+-- Which program an input is (docs/FORMATS.md), and what is wrong with one that is none.
 use Rattle.std.specs.Prelude.{◌≡◌, ℕ, List, take, codes}
 use Rattle.asl_code.specs.declared.image.Image.{Image}
 use Rattle.asl_assembler.specs.Faults.{IsProgramText}
