@@ -1,7 +1,7 @@
 /* What a compiler asks of the library: the lists of a source's sections, each with the function that it is in. It reads the source on
  * standard input, and prints a line for each section and one for each of its locks.
  *
- *   cc -I include examples/c/lists.c crates/asl_c_commands/out/libasl_c_commands.a C/liblibc_c.a -o lists      (C is the kit's folder c)
+ *   tools/library && cc -I include examples/c/lists.c out/lib/libasl.a -o lists
  *   ./lists < examples/bank.asl */
 #include "asl.h"
 #include <stdio.h>
