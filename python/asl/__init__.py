@@ -6,7 +6,7 @@
     for section in program.sections:
         print(section.function, section.start, section.end, [lock.text for lock in section.locks])
 
-    asl.lists(source)                            # all that is told of them: classes, functions, statements, as values or JSON
+    asl.lists(source)                            # all that is told of them: classes, functions, statements, warnings
     asl.diagnose(source)                         # raises SourceError with line and column where the source is refused
     with asl.Session(program, threads=2) as session:
         session.step(0)
@@ -26,7 +26,7 @@ from ._commands import (
 )
 from ._errors import AslError, LibraryError, Refused, SessionError, SourceError
 from ._library import call, library_path
-from ._lists import ClassEntry, Document, FunctionEntry, ListedLock, ListedSection, Place, lists
+from ._lists import ClassEntry, Document, FunctionEntry, ListedLock, ListedSection, Need, Notice, Place, lists
 from ._session import Session
 
 __all__ = [
@@ -38,6 +38,8 @@ __all__ = [
     "ListedLock",
     "ListedSection",
     "Lock",
+    "Need",
+    "Notice",
     "Place",
     "Program",
     "Refused",

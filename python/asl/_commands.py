@@ -14,8 +14,8 @@ Text = Union[str, bytes]
 class Lock:
     """A lock of a list. `kind` is 'expr', 'class' or 'root', `effect` 'read' or 'write', and `text` its line in the assembly text.
 
-    Of an expression, `base` is the register or the global where it begins, as 'r1' or 'g0', `name` what the source calls that, if it
-    has a name, and `path` its operations: a number of cells to go on, or '*' to follow the address in the cell. `klass` is the class
+    Of an expression, `base` is the register or the global where it begins, as 'r1' or 'g0', `name` what the source calls that, or else
+    the same as `base`, and `path` its operations: a number of cells to go on, or '*' to follow the address in the cell. `klass` is the class
     of a class lock.
     """
 
@@ -106,7 +106,7 @@ def lock_of(text: str, names: Dict[str, str]) -> Lock:
     words = text.split()
     if words[0] == "expr":
         path = tuple(word if word == "*" else int(word[1:]) for word in words[2:-1])
-        return Lock("expr", words[-1], text, base=words[1], name=names.get(words[1]), path=path)
+        return Lock("expr", words[-1], text, base=words[1], name=names.get(words[1], words[1]), path=path)
     return Lock(words[0], words[-1], text, klass=int(words[1]) if words[0] == "class" else None)
 
 
