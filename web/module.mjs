@@ -10,10 +10,10 @@ const near = name => new URL(name, import.meta.url);
 
 // (src/ has modules of the page, which Node takes for such only by their text)
 async function moduleOfPage() {
-  const script = encodeURIComponent(readFileSync(near('src/base85.js'), 'utf8'));
-  const { fromBase85 } = await import('data:text/javascript,' + script);
-  const [, letters] = /id="wasm">\s*([^<]*?)\s*</.exec(readFileSync(near('../docs/workbench.html'), 'latin1'));
-  return gunzipSync(fromBase85(letters));
+  const script = encodeURIComponent(readFileSync(near('src/letters.js'), 'utf8'));
+  const { fromLetters } = await import('data:text/javascript,' + script);
+  const [, letters] = /id="wasm">([^<]*)</.exec(readFileSync(near('../docs/workbench.html'), 'utf8'));
+  return gunzipSync(fromLetters(letters));
 }
 
 export async function openAsl() {

@@ -2,7 +2,7 @@
 
 import { byId, el, keepingFocus, lookAtDrawn, make, renew, setText, textSize } from './dom.js';
 import { isBusy, isWaitedFor, openToolchain, stopAll, toolStatistics } from './toolchain.js';
-import { unpacked } from './tool.js';
+import { cannotStart } from './packed.js';
 import { unlessDropped } from './aside.js';
 import { Bench, MOST_THREADS } from './bench.js';
 import { tellView } from './view.js';
@@ -39,7 +39,6 @@ import { listenToKeys } from './keys.js';
 import { isDark, setDark, changeTextSize, toggleLecture, toggleInstructions, openAsking, openDialog, openKeys, note } from './page.js';
 import { watchRoom } from './room.js';
 
-const packed = id => byId(id).textContent.trim();
 const examples = Object.create(null); // (no other name is one)
 const bench = new Bench(changed, { state: lessonState, restore: restoreLesson });
 const comparison = new Comparison(bench, changed);
@@ -323,13 +322,13 @@ async function loadFragment(fragment, withLook) {
 const openLink = fragment => loadFragment(fragment, false);
 
 async function start() {
-  const data = await unpacked(packed('data')).json();
+  const data = await window.carried.data;
   Object.assign(examples, data.examples);
   takeLessons(data.lessons, examples);
   takeLook(wordsOfFragment(location.hash));
   byId('opened').before(...Object.entries(examples).map(([name, { about }]) => make(el('option', { value: name },
     `${name} – ${about}`))));
-  await openToolchain(packed('wasm'), byId('worker').textContent, waitingChanged);
+  await openToolchain(window.carried.module, data.worker, waitingChanged);
   listenToButtons();
   listenToKeyboard();
   listenToPage();
@@ -342,7 +341,4 @@ async function start() {
     isBusy: () => isBusy() || Boolean(bench.going || due.lists), ready: performance.now() }; }));
 }
 
-start().catch(error => {
-  renew(byId('say'), el('p', { class: 'is-fault' }, 'The workbench cannot start here: ' + error.message),
-    el('p', {}, 'It needs a browser with 64-bit WebAssembly memory: Chrome or Edge from 133, Firefox from 134.'));
-});
+start().catch(cannotStart);

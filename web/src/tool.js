@@ -1,13 +1,9 @@
-// The toolchain that the page carries: gzip in base 85. And a worker that has the same, made of the text that the page carries for it.
+// The toolchain that the page carries. And a worker that has the same, made of the text that the page carries for it.
 
 import { loadAsl } from '../asl.mjs';
-import { fromBase85 } from './base85.js';
 
-// What the page carries packed: gzip in base 85.
-export const unpacked = letters => new Response(new Blob([fromBase85(letters)]).stream().pipeThrough(new DecompressionStream('gzip')));
-
-export async function loadTool(letters) {
-  const module = await WebAssembly.compile(await unpacked(letters).arrayBuffer());
+export async function loadTool(compiled) {
+  const module = await compiled;
   return { module, call: await loadAsl(module) };
 }
 

@@ -8,8 +8,8 @@ const decoder = new TextDecoder();
 const tool = { call: null, calls: 0, milliseconds: 0, sessions: 0, ofText: null, ofRun: null };
 
 // `told` hears it when somebody begins to wait for an answer, or need not wait any more.
-export async function openToolchain(letters, worker, told) {
-  const { module, call } = await loadTool(letters);
+export async function openToolchain(compiled, worker, told) {
+  const { module, call } = await loadTool(compiled);
   const aside = () => new Aside(() => workerOf(worker, module), call, told);
   Object.assign(tool, { call, ofText: aside(), ofRun: aside() });
 }

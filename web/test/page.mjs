@@ -312,6 +312,7 @@ await part('the mouse: lane heads, events, buttons, a dropped file', async () =>
   await click("document.querySelectorAll('.mark')[1]"); check((await at())[0] === 2, 'an event is clicked');
   await click("document.querySelector('#forward')"); check((await at())[0] === 3, 'forward');
   await click("document.querySelector('#robin')"); check((await at())[0] > 10, 'round robin');
+  await settled(); // what is compared above the table has come, and moves it no more
   await click("document.querySelectorAll('#sections button.k')[0]"); check(await run('workbench.bench.k') === 0, 'a column of the table of k');
   await run(`(() => { const given = new DataTransfer(); given.items.add(new File([${JSON.stringify(readFileSync(EXAMPLES + 'nested.asl', 'utf8'))}], 'mine.asl'));
     dispatchEvent(new DragEvent('drop', { dataTransfer: given, cancelable: true })); })()`);
