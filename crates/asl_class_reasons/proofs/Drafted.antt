@@ -1,6 +1,6 @@
 -- The classes that a draft puts together.
-use Rattle.std.proofs.Common.{◌≡◌, ℕ, ◌+◌, ◌*◌, ◌<◌, ◌≤◌, List, [], length, map, take, drop, Option, Some, None, get_or, slice_get, ltb, refl, sym, ap, ◌∙◌, subst, arith}
-use Rattle.std.specs.Prelude.{option_and_then, nat_lt}
+use Rattle.std.proofs.Common.{◌≡◌, ℕ, ◌+◌, ◌<◌, List, [], length, map, take, Option, Some, None, slice_get, ltb, sym, ap, ◌∙◌, arith}
+use Rattle.std.specs.Prelude.{option_and_then}
 use Rattle.std.specs.List.{range_with_len}
 use Rattle.std.proofs.lemmas.List.{get_or-take, length-take-le}
 use Rattle.std.proofs.lemmas.List.FromFn.{length-map-range_with_len, get_or-map-range_with_len}
@@ -8,12 +8,12 @@ use Rattle.std.proofs.lemmas.Option.{slice_get-get_or}
 use Rattle.std.proofs.Math.Seq.{take-add}
 use Rattle.std.proofs.lemmas.Bool.{lt-ltb, cond-true}
 use Rattle.asl_lower.specs.Lowered.{Lowered}
-use Rattle.asl_points_to.specs.Classes.{Classed, to, inside, members, some_at}
+use Rattle.asl_points_to.specs.Classes.{to, inside, members, some_at}
 use Rattle.asl_class_reasons.specs.declared.place.Place.{Place}
 use Rattle.asl_class_reasons.specs.declared.place.Place.TheVariants as place
 use Rattle.asl_class_reasons.specs.declared.draft.Draft.{Draft}
 use Rattle.asl_class_reasons.specs.Reasons.{points}
-use Rattle.asl_class_reasons.specs.Draft.{IsThere, IsSized, IsFounded, IsPlain, label, pointed, target, row, rows, drafted}
+use Rattle.asl_class_reasons.specs.Draft.{IsThere, IsSized, IsFounded, IsPlain, label, pointed, target, row, drafted}
 
 -- an element of a list that is made of numbers
 made_at : {X : Type 0} (g : ℕ → X) (n k : ℕ) (d : X) → k < n → slice_get (map g (range_with_len 0 n)) k ≡ Some (g k)

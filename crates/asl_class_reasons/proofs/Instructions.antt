@@ -15,16 +15,11 @@ use Rattle.asl_lower.specs.Limits.{FitsTable}
 use Rattle.asl_lower.specs.Facts.{HasLayout}
 use Rattle.asl_lower.specs.LegalLowering.{IsLegalLowering}
 use Rattle.asl_points_to.specs.Flows.{Stands}
-use Rattle.asl_points_to.proofs.BodyFacts.{HasFacts, facts}
-use Rattle.asl_points_to.specs.Classes.{Classed, to, members, Gives, IsLegal, IsLegalAt}
-use Rattle.asl_class_reasons.specs.declared.place.Place.{Place}
-use Rattle.asl_class_reasons.specs.declared.place.Place.TheVariants as place
-use Rattle.asl_class_reasons.specs.declared.place.Step.{Step}
+use Rattle.asl_points_to.proofs.BodyFacts.{facts}
+use Rattle.asl_points_to.specs.Classes.{Classed, to, Gives, IsLegalAt}
 use Rattle.asl_class_reasons.specs.declared.flow.Flow.{Flow}
-use Rattle.asl_class_reasons.specs.declared.flow.Flow.TheVariants as flow
 use Rattle.asl_class_reasons.specs.declared.flow.Owed.{Owed}
-use Rattle.asl_class_reasons.specs.Reasons.{points}
-use Rattle.asl_class_reasons.specs.Draft.{Holds, HasFlow, MakesDue, IsOf, AreOf, HoldAll, HoldAt, AreOwed, AreOwedAt, IsOwedAll, plain_flow, passed_one, passed, returned_one}
+use Rattle.asl_class_reasons.specs.Draft.{Holds, HasFlow, MakesDue, IsOf, AreOwed, AreOwedAt, IsOwedAll, plain_flow, passed_one, passed, returned_one}
 use Rattle.asl_class_reasons.proofs.Linking.{slice_get_more, slice_get_last}
 
 -- an element of two lists, one after the other

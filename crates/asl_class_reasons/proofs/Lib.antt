@@ -5,3 +5,6 @@ pub mod Owing
 pub mod Instructions
 pub mod Sound
 pub mod Making
+pub mod Searching
+pub mod Chaining
+pub mod LeftOut

@@ -1,5 +1,5 @@
 -- Drafts that functions make: the first, one with a step more between places that are joined, and one settled.
-use Rattle.std.proofs.Common.{◌≡◌, ℕ, ◌+◌, ◌*◌, ◌^◌, ◌<◌, ◌≤◌, ◌⊎◌, inl, inr, false, true, List, [], ◌∷◌, ◌++◌, length, get_or, take, drop, None, Some, slice_get, sum, refl, sym, ap, ◌∙◌, subst, arith, length-drop}
+use Rattle.std.proofs.Common.{◌≡◌, ℕ, ◌+◌, ◌*◌, ◌^◌, ◌<◌, ◌≤◌, inl, inr, List, [], ◌∷◌, ◌++◌, length, get_or, take, drop, None, Some, slice_get, refl, sym, ap, ◌∙◌, subst, arith, length-drop}
 use Rattle.std.specs.List.{range_with_len}
 use Rattle.std.proofs.lemmas.Bool.{cases_eq}
 use Rattle.std.proofs.lemmas.List.{length-take-le}
@@ -13,8 +13,8 @@ use Rattle.asl_class_reasons.specs.declared.place.Cause.TheVariants as cause
 use Rattle.asl_class_reasons.specs.declared.place.Step.{Step}
 use Rattle.asl_class_reasons.specs.declared.flow.Owed.{Owed}
 use Rattle.asl_class_reasons.specs.declared.draft.Draft.{Draft}
-use Rattle.asl_class_reasons.specs.Reasons.{Joined, IsReasoned, AreReasons, AreAllReasons}
-use Rattle.asl_class_reasons.specs.Draft.{number, Has, IsThere, IsThereFlow, IsSized, IsFounded, IsHead, IsSettled, IsOf, AreOf, AreThere, IsOwedAll, HoldAll, Holds, label, drafted}
+use Rattle.asl_class_reasons.specs.Reasons.{Joined, IsReasoned, AreAllReasons}
+use Rattle.asl_class_reasons.specs.Draft.{number, IsThere, IsThereFlow, IsSized, IsFounded, IsHead, IsSettled, IsOf, AreOf, AreThere, IsOwedAll, HoldAll, Holds, label, drafted}
 use Rattle.asl_class_reasons.proofs.Linking.{extends_more, joined_within, reasons_more, slice_get_last}
 use Rattle.asl_class_reasons.proofs.Labels.{own_number, founded_new, number_low, there_before, there_after}
 use Rattle.asl_class_reasons.proofs.Owing.{head_points, there_flow}

@@ -1,8 +1,8 @@
 -- The step that is owed in a draft, and that the classes of a draft have what is owed where it joins nothing.
-use Rattle.std.proofs.Common.{◌≡◌, ℕ, ◌+◌, ◌<◌, List, Option, Some, None, refl, sym, ap, ◌∙◌, subst, arith}
+use Rattle.std.proofs.Common.{◌≡◌, ℕ, Option, Some, None, refl, sym, ap, ◌∙◌, subst, arith}
 use Rattle.std.specs.Prelude.{IfSome, MatchOption}
 use Rattle.asl_lower.specs.Lowered.{Lowered}
-use Rattle.asl_points_to.specs.Classes.{Classed, inside}
+use Rattle.asl_points_to.specs.Classes.{inside}
 use Rattle.asl_class_reasons.specs.declared.place.Place.{Place}
 use Rattle.asl_class_reasons.specs.declared.place.Place.TheVariants as place
 use Rattle.asl_class_reasons.specs.declared.place.Cause.TheVariants as cause
@@ -11,8 +11,8 @@ use Rattle.asl_class_reasons.specs.declared.flow.Flow.{Flow}
 use Rattle.asl_class_reasons.specs.declared.flow.Flow.TheVariants as flow
 use Rattle.asl_class_reasons.specs.declared.flow.Owed.{Owed}
 use Rattle.asl_class_reasons.specs.declared.draft.Draft.{Draft}
-use Rattle.asl_class_reasons.specs.Reasons.{points, Joined, IsMember, IsFilled, PointsTo, IsReasoned}
-use Rattle.asl_class_reasons.specs.Draft.{IsThere, IsThereFlow, IsSized, IsFounded, IsPlain, HasFlow, IsHead, IsOf, MakesDue, Holds, label, target, drafted}
+use Rattle.asl_class_reasons.specs.Reasons.{IsFilled, PointsTo, IsReasoned}
+use Rattle.asl_class_reasons.specs.Draft.{IsThere, IsThereFlow, IsSized, IsFounded, HasFlow, IsHead, IsOf, MakesDue, Holds, label, target, drafted}
 use Rattle.asl_class_reasons.proofs.Drafted.{inside_at, plain_there, points_at, target_low}
 
 abbrev pub step_of : ℕ → Place → Place → Step

@@ -1,13 +1,13 @@
 -- Reasons are sound: where a chain of them leads from one place to another, both point to one class in all legal classes. And
 -- where a draft is settled, members that share a class are joined.
-use Rattle.std.proofs.Common.{◌≡◌, ℕ, zero, suc, ◌+◌, ◌-◌, ◌<◌, ◌≤◌, ◌⊎◌, inl, inr, List, [], ◌∷◌, ◌++◌, length, take, Option, None, Some, get_or, slice_get, refl, sym, ap, ◌∙◌, subst, arith, length-append}
+use Rattle.std.proofs.Common.{◌≡◌, ℕ, zero, suc, ◌+◌, ◌-◌, ◌<◌, inl, inr, List, [], ◌∷◌, ◌++◌, length, take, Option, Some, get_or, slice_get, sym, ap, ◌∙◌, arith, length-append}
 use Rattle.std.specs.Prelude.{option_and_then}
 use Rattle.std.proofs.lemmas.List.{get_or_append_left, get_or-append_right, get_or-take, length-take}
 use Rattle.std.proofs.lemmas.Option.{slice_get-get_or, slice_get_within, get_or_from_slice_get}
 use Rattle.asl_code.specs.declared.instr.Instr.{Instr}
 use Rattle.asl_code.specs.declared.instr.Instr.TheVariants as instr
 use Rattle.asl_lower.specs.Lowered.{Lowered}
-use Rattle.asl_points_to.specs.Classes.{Classed, to, inside, members, Share, IsLegal, IsLegalAt, AreClasses}
+use Rattle.asl_points_to.specs.Classes.{Classed, inside, members, Share, IsLegal, IsLegalAt, AreClasses}
 use Rattle.asl_class_reasons.specs.declared.place.Place.{Place}
 use Rattle.asl_class_reasons.specs.declared.place.Place.TheVariants as place
 use Rattle.asl_class_reasons.specs.declared.place.Cause.{Cause}

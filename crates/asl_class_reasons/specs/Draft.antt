@@ -1,5 +1,5 @@
 -- Machinery of the proofs, not of the promise: the steps as src/draft.rt finds them, and the classes of places on the way.
-use Rattle.std.specs.Prelude.{◌≡◌, ◌≢◌, ◌<◌, ◌≤◌, ◌+◌, ◌*◌, ◌^◌, ◌⊎◌, ◌++◌, ℕ, zero, suc, if◌then◌else◌, nat_lt, List, [], ◌∷◌, length, map, sum, take, drop, Option, None, Some, slice_get, slice_index}
+use Rattle.std.specs.Prelude.{◌≡◌, ◌≢◌, ◌<◌, ◌≤◌, ◌+◌, ◌*◌, ◌^◌, ◌++◌, ℕ, zero, suc, if◌then◌else◌, nat_lt, List, [], ◌∷◌, length, map, sum, take, drop, Option, None, Some, slice_get, slice_index}
 use Rattle.std.specs.List.{range_with_len}
 use Rattle.asl_code.specs.declared.instr.Instr.{Instr}
 use Rattle.asl_code.specs.declared.instr.Instr.TheVariants as instr
@@ -14,7 +14,7 @@ use Rattle.asl_class_reasons.specs.declared.flow.Flow.{Flow}
 use Rattle.asl_class_reasons.specs.declared.flow.Flow.TheVariants as flow
 use Rattle.asl_class_reasons.specs.declared.flow.Owed.{Owed}
 use Rattle.asl_class_reasons.specs.declared.draft.Draft.{Draft}
-use Rattle.asl_class_reasons.specs.Reasons.{points, Joined, IsMember, IsReasoned, AreReasons, IsDue}
+use Rattle.asl_class_reasons.specs.Reasons.{points, Joined, IsMember, AreReasons, IsDue}
 
 -- the number of a place, in a program with so many members
 abbrev pub number : ℕ → Place → ℕ
@@ -141,6 +141,17 @@ pub record AreOwedAt (l : Lowered) (f pc : ℕ) (i : Instr) (owed : List Owed) :
 pub record IsOwedAll (l : Lowered) (owed : List Owed) : Type 0 where
   pub each : AreOf l owed
   pub all : (c : Classed) → length c.globals ≡ l.globals → length c.sites ≡ l.sites → HoldAll c owed → IsLegal l c
+
+-- of what is owed, all that is owed elsewhere than to the instruction at a pc
+pub record IsElsewhere (owed : List Owed) (pc : ℕ) (left : List Owed) : Type 0 where
+  pub from : (n : ℕ) (o : Owed) → slice_get left n ≡ Some o → (k : ℕ) × (slice_get owed k ≡ Some o) × (o.pc ≢ pc)
+  pub all : (k : ℕ) (o : Owed) → slice_get owed k ≡ Some o → o.pc ≢ pc → (n : ℕ) × (slice_get left n ≡ Some o)
+
+-- two programs with the same members and functions
+pub record IsLike (l k : Lowered) : Type 0 where
+  pub globals : k.globals ≡ l.globals
+  pub sites : k.sites ≡ l.sites
+  pub functions : k.functions ≡ l.functions
 
 -- what is owed to an instruction that is no call
 abbrev pub plain_flow : ℕ → ℕ → Instr → Option Flow

@@ -1,3 +1,5 @@
 pub mod Reasons
+pub mod Without
 -- Machinery of the proofs, not of the promise:
 pub mod Draft
+pub mod Chains

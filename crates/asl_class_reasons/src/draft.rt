@@ -160,6 +160,20 @@ impl Draft {
         }
     }
 
+    /// Whether two members are apart. Who is no member is apart from all.
+    pub(crate) fn are_apart(&mut self, m: u32, n: u32) -> bool
+        requires { IsSized self.old }
+        ensures apart { result ≡ true → m < self.old.members → n < self.old.members → label self.old (Place.Member m) ≢ label self.old (Place.Member n) }
+        ensures one { result ≡ false → (m < self.old.members) × (n < self.old.members) × (label self.old (Place.Member m) ≡ label self.old (Place.Member n)) }
+    {
+        if m >= self.members || n >= self.members {
+            return true;
+        }
+        let first = self.sets.first(m);
+        let other = self.sets.first(n);
+        first != other
+    }
+
     /// Makes a step more between places that are joined, so that chains get shorter.
     pub(crate) fn shorten(&mut self, owed: Owed) -> Result<(), AllocError>
         requires sized { IsSized self.old }

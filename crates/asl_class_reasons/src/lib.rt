@@ -1,15 +1,21 @@
 //! Why members of a program share a class: steps, each an instance of a condition on legal classes, and chains of them.
 #![tactic(auto)]
 
+mod chains;
 mod draft;
 mod flow;
 mod flows;
 mod laws;
+mod parting;
 mod place;
 mod reasons;
+mod search;
 mod sets;
 mod settle;
+mod step_ends;
 
 pub use laws::chains_put_together;
+pub use parting::parts;
 pub use place::{Cause, Link, Place, Step};
 pub use reasons::{Reasons, reasons_of};
+pub use search::Chains;

@@ -32,6 +32,6 @@ pub struct Step {
 /// A link of a chain: by the step of a number, either way, to a place.
 #[derive(Clone, Copy)]
 pub struct Link {
-    pub step: u32,
+    pub step: usize,
     pub into: Place,
 }

@@ -1,7 +1,9 @@
 //! All reasons of a program.
 
 ghost use Rattle.std.specs.Prelude.{◌≡◌, ◌<◌, ◌+◌, ◌^◌, IfOk, length};
-ghost use Rattle.asl_class_reasons.specs.Draft.{IsSettled, AreOwed};
+ghost use Rattle.asl_lower.specs.Lowered.{Lowered};
+ghost use Rattle.asl_lower.specs.LegalLowering.{IsLegalLowering};
+ghost use Rattle.asl_class_reasons.specs.Draft.{IsSized, IsSettled, AreOf, IsLike, IsOwedAll};
 ghost use Rattle.asl_class_reasons.specs.Reasons.{AreAllReasons};
 
 use crate::draft::Draft;
@@ -9,6 +11,7 @@ use crate::flow::Owed;
 use crate::flows::program_owed;
 use crate::place::Step;
 use crate::settle::settle;
+use crate::step_ends::StepEnds;
 use asl_lower::Lowering;
 use std::alloc::{AllocError, Global};
 use std::marker::Model;
@@ -17,6 +20,7 @@ use std::marker::Model;
 #[derive(Drop)]
 pub struct Reasons {
     pub(crate) draft: Draft,
+    pub(crate) ends: StepEnds,
 }
 
 impl Model for Reasons {
@@ -38,10 +42,17 @@ fn members(lowering: &Lowering) -> u32
     u32::from(lowering.globals()) + u32::from(lowering.sites())
 }
 
-/// The draft in which what is owed to a program joins nothing more.
-fn settled(alloc: Global, lowering: &Lowering, owed: &[Owed]) -> Result<Draft, AllocError>
-    requires { AreOwed lowering.now (length lowering.now.code) owed.now }
-    ensures { IfOk result (IsSettled lowering.now) }
+/// The draft in which these join nothing more, which are owed to a program, or all that are owed to one with the same members
+/// and functions.
+pub(crate) fn settled(
+    alloc: Global,
+    lowering: &Lowering,
+    owed: &[Owed],
+) -> Result<Draft, AllocError>
+    requires { AreOf lowering.now owed.now }
+    ensures kept { IsLegalLowering lowering.now }
+    ensures sized { IfOk result IsSized }
+    ensures settled { (l : Lowered) → IsLike lowering.now l → IsOwedAll l owed.now → IfOk result (IsSettled l) }
 {
     let count = lowering.functions().len() as u32;
     let mut draft = Draft::new(alloc, members(lowering), count)?;
@@ -60,7 +71,8 @@ pub fn reasons_of(alloc: Global, lowering: &Lowering) -> Result<Reasons, AllocEr
     for one in &owed {
         draft.shorten(*one)?;
     }
-    Ok(Reasons { draft })
+    let ends = StepEnds::new(alloc, &draft)?;
+    Ok(Reasons { draft, ends })
 }
 
 impl Reasons {

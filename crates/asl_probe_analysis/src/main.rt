@@ -1,14 +1,15 @@
-//! Answers scripts of calls on the public functions of `asl_points_to`, `asl_lock_expr`, `asl_backward_flow` and `asl_emitter`: what the
-//! cases of `tests/cases` are run through.
+//! Answers scripts of calls on the public functions of `asl_points_to`, `asl_class_reasons`, `asl_lock_expr`, `asl_backward_flow` and
+//! `asl_emitter`: what the cases of `tests/cases` are run through.
 //!
-//! A script begins with a line `== NAME`, which is answered as it is, and a line that names its kind. For `source` a text follows,
-//! and a line `--`. Then come the calls, one a line.
+//! A script begins with a line `== NAME`, which is answered as it is, and a line that names its kind. For `source` and
+//! `reasons` a text follows, and a line `--`. Then come the calls, one a line.
 #![tactic(auto)]
 
 mod adding;
 mod cells;
 mod infer;
 mod laws;
+mod reasons;
 mod source;
 
 use std::alloc::{AllocError, Global};
@@ -58,6 +59,10 @@ fn answer(alloc: Global, kind: &str, calls: &str, out: &mut String) -> Result<()
         "source" => {
             let (given, calls) = calls.split_once("\n--\n").unwrap_or((calls, ""));
             source::answer(alloc, given, calls, out)
+        }
+        "reasons" => {
+            let (given, calls) = calls.split_once("\n--\n").unwrap_or((calls, ""));
+            reasons::answer(alloc, given, calls, out)
         }
         _ => out.push_str("no such kind\n"),
     }

@@ -1,5 +1,4 @@
 -- what is owed so far
-use Rattle.std.proofs.Common.{◌≡◌}
 use Rattle.asl_class_reasons.specs.Draft.{AreOwed}
 use Rattle.asl_class_reasons.proofs.flows.program_owed.Given as goal
 

@@ -1,6 +1,5 @@
-use Rattle.std.proofs.Common.{◌≡◌, ℕ, length, Some, get_or, slice_get, sym, ap, ◌∙◌, arith}
+use Rattle.std.proofs.Common.{ℕ, length, get_or, sym, ap, ◌∙◌, arith}
 use Rattle.asl_code.specs.declared.image.Function as entry
-use Rattle.asl_code.specs.declared.instr.Instr.{Instr}
 use Rattle.asl_points_to.specs.Flows.{Stands}
 use Rattle.asl_points_to.proofs.BodyFacts.{called}
 use Rattle.asl_class_reasons.specs.Draft.{plain_flow}

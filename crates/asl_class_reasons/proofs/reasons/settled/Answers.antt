@@ -1,6 +1,5 @@
-use Rattle.std.proofs.Common.{ap, length, arith}
+use Rattle.std.proofs.Common.{◌∙◌, ap, sym, length, arith}
 use Rattle.asl_lower.proofs.Layouts.{kept_layout}
-use Rattle.asl_class_reasons.proofs.Instructions.{owed_all}
 use Rattle.asl_class_reasons.proofs.Making.{owed_there, is_settled}
 use Rattle.asl_class_reasons.proofs.reasons.settled.Goals as goal
 
@@ -17,12 +16,10 @@ new-requires-clause-functions c =
 pub settle-requires-clause-there : goal.settle-requires-clause-there
 settle-requires-clause-there c =
     let l = c.args.lowering.now in
-    owed_there l c.in_ok-draft.draft (c.in_ok-draft.ensures.founded l c.members.ensures.count (ap length c.functions.ensures.functions)) c.args.owed.now c.requires.each
+    owed_there l c.in_ok-draft.draft (c.in_ok-draft.ensures.founded l c.members.ensures.count (ap length c.functions.ensures.functions)) c.args.owed.now c.requires
 
-pub returns : goal.returns
-returns c =
-    let l = c.args.lowering.now in
-    let h = kept_layout l c.functions.ensures.kept in
-    let f = c.in_ok-draft.ensures.founded l c.members.ensures.count (ap length c.functions.ensures.functions) in
+pub returns-clause-settled : goal.returns-clause-settled
+returns-clause-settled c = λ l like owed. (
+    let f = c.in_ok-draft.ensures.founded l (omega (arith, c.members.ensures.count, like.globals, like.sites)) (ap length c.functions.ensures.functions ∙ ap length (sym like.functions)) in
     let s = c.in_ok-settle.ensures in
-    is_settled l c.settle.new.draft c.args.owed.now (owed_all l h c.args.owed.now c.requires) s.grown.sized (s.founded l f c.requires.each) (s.holds l f c.requires.each)
+    is_settled l c.settle.new.draft c.args.owed.now owed s.grown.sized (s.founded l f owed.each) (s.holds l f owed.each))

@@ -1,5 +1,4 @@
 -- what has been joined so far
-use Rattle.std.proofs.Common.{◌≡◌}
 use Rattle.asl_lower.specs.Lowered.{Lowered}
 use Rattle.asl_class_reasons.specs.Draft.{IsFounded, IsGrown}
 use Rattle.asl_class_reasons.proofs.settle.join_all_cells.Given as goal

@@ -1,6 +1,5 @@
 use Rattle.std.proofs.Common.{◌≡◌, true, false, sym, ◌∙◌, subst, arith}
 use Rattle.std.proofs.lemmas.Option.{slice_get_within}
-use Rattle.asl_lower.specs.Lowered.{Lowered}
 use Rattle.asl_class_reasons.specs.declared.draft.Draft.{Draft}
 use Rattle.asl_class_reasons.specs.Draft.{Holds, drafted}
 use Rattle.asl_class_reasons.proofs.Labels.{grown_on}

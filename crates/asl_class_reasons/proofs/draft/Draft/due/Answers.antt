@@ -1,4 +1,4 @@
-use Rattle.std.proofs.Common.{◌≡◌, ℕ, Option, None, Some, sym, subst}
+use Rattle.std.proofs.Common.{◌≡◌, ℕ, Option, None, sym, subst}
 use Rattle.std.specs.Prelude.{IfSome}
 use Rattle.asl_class_reasons.specs.declared.place.Place.{Place}
 use Rattle.asl_class_reasons.specs.declared.place.Place.TheVariants as place

@@ -1,4 +1,4 @@
-use Rattle.std.proofs.Common.{◌≡◌, refl}
+use Rattle.std.proofs.Common.{refl}
 use Rattle.asl_class_reasons.specs.declared.draft.Draft.{Draft}
 use Rattle.asl_class_reasons.proofs.Labels.{IsStep, step_made, step_lower, grown_step, founded_step}
 use Rattle.asl_class_reasons.proofs.draft.Draft.join.Goals as goal

@@ -1,5 +1,4 @@
-use Rattle.std.proofs.Common.{List, ◌++◌, ◌∷◌, [], ap, ◌∙◌}
-use Rattle.asl_class_reasons.specs.declared.place.Step.{Step}
+use Rattle.std.proofs.Common.{◌++◌, ◌∷◌, [], ap, ◌∙◌}
 use Rattle.asl_class_reasons.specs.declared.draft.Draft.{Draft}
 use Rattle.asl_class_reasons.proofs.Making.{longer_settled}
 use Rattle.asl_class_reasons.proofs.draft.Draft.shorten.Goals as goal
