@@ -23,10 +23,13 @@ const STEP: usize = 256;
 /// So many numbers stay as they are.
 const FEW: usize = 16;
 
-/// How many operations of a path go into a key, and how many digits an operation, or the end of a path, may be.
-const KEY_OPS: usize = 5;
+/// How many operations of a path go into each half of a key, and how many digits an operation, or the end of a path, may be.
+const HALF_OPS: usize = 5;
 
 const DIGITS: u64 = 258;
+
+/// Behind the operations of both halves: more than a path has.
+const KEY_OPS: usize = 2 * HALF_OPS;
 
 /// A region with its locks in the order in which they were found. For each of its points, from the first pc on, a set has the
 /// numbers of the locks that are needed there; a set is as long as its numbers made it.
@@ -116,7 +119,8 @@ pub fn empty_sets(alloc: Global, count: usize) -> Result<Vec<Bits>, AllocError>
     Ok(sets)
 }
 
-/// Puts many numbers nearly in the order of their locks, so that few locks are moved where they are put at their places in turn.
+/// Puts many numbers in the order of their locks, so that no lock is moved where they are put at their places in turn. That they are
+/// in this order is not promised: whoever puts them at their places looks where these are.
 fn arrange(locks: &[Lock], numbers: &mut Vec<usize>) -> Result<(), AllocError>
     ensures { (k : ℕ) → Contains numbers.new.items k ↔ Contains numbers.old.items k }
 {
@@ -126,12 +130,19 @@ fn arrange(locks: &[Lock], numbers: &mut Vec<usize>) -> Result<(), AllocError>
     numbers.sort_by_cached_key(|number| key(locks, *number))
 }
 
-/// A key that is less where the number's lock comes first, as far as its class, or its base and the front of its path, tell.
-fn key(locks: &[Lock], number: usize) -> u64 {
+/// A key that is less where the number's lock comes first, as far as its class, or its base and its path, tell: the base with the
+/// front of the path, and the rest of the path.
+fn key(locks: &[Lock], number: usize) -> (u64, u64) {
     match locks.get(number) {
-        Some(Lock::Expr(expr, _)) => path_key(base_key(expr.base), expr.path.as_slice()),
-        Some(Lock::Class(class, _)) => u64::from(*class),
-        _ => 0,
+        Some(Lock::Expr(expr, _)) => {
+            let ops = expr.path.as_slice();
+            (
+                path_key(base_key(expr.base), ops, 0, HALF_OPS),
+                path_key(0, ops, HALF_OPS, KEY_OPS),
+            )
+        }
+        Some(Lock::Class(class, _)) => (u64::from(*class), 0),
+        _ => (0, 0),
     }
 }
 
@@ -143,10 +154,11 @@ fn base_key(base: Base) -> u64 {
     }
 }
 
-/// The number with the key of the base and the first operations of the path as digits, which is above all classes.
-fn path_key(base: u64, ops: &[Op]) -> u64 {
-    let mut key = base;
-    for place in 0..KEY_OPS {
+/// The number with a first digit and the operations of the path from a place on up to another as digits. With the key of a base in
+/// front it is above all classes.
+fn path_key(front: u64, ops: &[Op], first: usize, end: usize) -> u64 {
+    let mut key = front;
+    for place in first..end {
         key = key
             .wrapping_mul(DIGITS)
             .wrapping_add(op_key(ops.get(place)));
