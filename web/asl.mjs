@@ -1,6 +1,7 @@
 // The proved toolchain as a WebAssembly module, for the browser and for Node (from 24, or with --experimental-wasm-memory64).
 //   const asl = await loadAsl(bytes);                       the bytes of asl.wasm, or a module that was compiled of them
 //   asl(['compile', '--text'], source)                      { status, output: Uint8Array, errors: string }
+//   asl.lists(source, { k: 'auto', entries: ['put'] })      the document of `asl lists`, as an object
 //   const session = asl.session(program, threads);          an image or assembly text; a run that is stepped, gone through, and cut
 // The words and the status are those of the program `asl`; `run`, which needs threads, has status 255.
 
@@ -20,9 +21,20 @@ const STATUSES = { 2: 'OutOfMemory', 3: 'BadHandle', 4: 'BadThread', 11: 'BadCou
 export async function loadAsl(bytes) {
   const made = await WebAssembly.instantiate(bytes, {});
   const wasm = (made.instance || made).exports, memory = memoryOf(wasm);
-  return Object.assign(callerOf(wasm, memory), { session: (program, threads) => sessionOf(wasm, memory, program, threads),
+  const asl = callerOf(wasm, memory);
+  return Object.assign(asl, { lists: listsBy(asl), session: (program, threads) => sessionOf(wasm, memory, program, threads),
     memory: () => wasm.memory.buffer.byteLength });
 }
+
+// All that is told of the lists of a source (docs/CLI.md, "Lists"; docs/lists.schema.json). `k` is 0 to 8, or 'auto'; `entries` are the
+// functions that are called of a source without `main`. A refusal throws an error whose name is that of the refusal, and whose message is
+// the whole of it; words that are no k and no name throw WrongUsage.
+const listsBy = asl => (source, { k = 3, entries = [] } = {}) => {
+  const { status, output, errors } = asl(['lists', '--k', k, ...entries.flatMap(name => ['--entry', name])], source);
+  if (status === 0) return JSON.parse(decoder.decode(output));
+  const message = errors.trim().replace(/^asl: /, '');
+  throw Object.assign(new Error(message), { name: status === 1 ? message.replace(/\(.*/s, '') : 'WrongUsage', status });
+};
 
 function memoryOf(wasm) {
   const at = (pointer, length) => new Uint8Array(wasm.memory.buffer, Number(pointer), length);

@@ -1,10 +1,9 @@
 // The toolchain in Node, with the module that is there: asl.wasm beside this file, or in the folder out/ there; where there is none, the one
 // that docs/workbench.html carries. The variable ASL_WASM names another one.
-//   const asl = await openAsl();                            as loadAsl of asl.mjs; with asl.lists(source, { k }), which lists.mjs has
+//   const asl = await openAsl();                            as loadAsl of asl.mjs
 import { existsSync, readFileSync } from 'node:fs';
 import { gunzipSync } from 'node:zlib';
 import { loadAsl } from './asl.mjs';
-import { lists } from './lists.mjs';
 
 const near = name => new URL(name, import.meta.url);
 
@@ -18,6 +17,5 @@ async function moduleOfPage() {
 
 export async function openAsl() {
   const module = process.env.ASL_WASM || ['asl.wasm', 'out/asl.wasm'].map(near).find(path => existsSync(path));
-  const asl = await loadAsl(module ? readFileSync(module) : await moduleOfPage());
-  return Object.assign(asl, { lists: (source, options) => lists(asl, source, options) });
+  return loadAsl(module ? readFileSync(module) : await moduleOfPage());
 }

@@ -1,4 +1,5 @@
-// What the panels for lists by hand, lessons, going further and prediction bring to the page: their keys, buttons and drawing.
+// What the panels for lists by hand, lessons, going further and prediction, and files that are made of the source, bring to the page:
+// their keys, buttons and drawing.
 
 import { isForbidden, keepRecords } from './lessons.js';
 import { drawOwn, enterOwn, toggleOwn } from './panels/own.js';
@@ -11,6 +12,7 @@ import { isLesson } from './lessontext.js';
 import { isAnswer, answerText, readAnswer } from './handin.js';
 import { copyText } from './files.js';
 import { packText, unpackText } from './pack.js';
+import { derive } from './derived.js';
 import { readers } from './opening.js';
 import { byId, el } from './dom.js';
 import { note, openDialog } from './page.js';
@@ -22,6 +24,7 @@ export const unlessForbidden = (word, act) => (...given) => (isForbidden(word)
 export const extraKeys = bench => ({
   g: () => go(bench, 'atomic'), G: () => go(bench, 'end'), Y: () => go(bench, 'event'), I: () => askLine(bench),
   p: () => breakHere(bench), '.': () => go(bench, 'break'), ',': () => go(bench, 'back'),
+  C: () => derive(bench, 'c'), J: () => derive(bench, 'lists'),
   v: () => enterOwn(bench), P: () => togglePredict(bench), H: openHandIn,
 });
 export const extraButtons = bench => ({ 'own-open': () => toggleOwn(bench), predict: () => togglePredict(bench),

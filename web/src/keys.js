@@ -20,7 +20,8 @@ export const KEYS = [
   ['l', 'all lanes, or those with events in view'], ['+  −', 'zoom of the timeline'],
     ['L', 'lecture: large, for a projector'], ['y  M', 'in a lecture: the lists over k, all other buttons'],
     ['V', 'all panels, where a link shows some'],
-  ['d', 'light, dark'], ['A  a', 'larger, smaller text'], ['s', 'share'], ['j', 'lessons'], ['?', 'this table'],
+  ['d', 'light, dark'], ['A  a', 'larger, smaller text'], ['s', 'share'],
+    ['C  J', 'save the C program, the lists as JSON'], ['j', 'lessons'], ['?', 'this table'],
 ];
 
 const typing = target => target && (/^(TEXTAREA|SELECT)$/.test(target.tagName) || (target.tagName === 'INPUT' && target.type !== 'range'));

@@ -1,7 +1,7 @@
 // Puts the workbench together: loads the toolchain, draws what changed, listens.
 
 import { byId, el, keepingFocus, lookAtDrawn, make, renew, setText, textSize } from './dom.js';
-import { isBusy, isWaitedFor, openToolchain, stopAll, toolStatistics } from './toolchain.js';
+import { hasCommand, isBusy, isWaitedFor, openToolchain, stopAll, toolStatistics } from './toolchain.js';
 import { cannotStart } from './packed.js';
 import { unlessDropped } from './aside.js';
 import { Bench, MOST_THREADS } from './bench.js';
@@ -337,7 +337,7 @@ async function start() {
   if (!(await loadFragment(keptFragment(), true))) loadExample('counter.asl');
   requestAnimationFrame(() => setTimeout(() => { window.workbench = { bench, tellView, toolStatistics, textSize,
     loadFile: (name, bytes) => openFiles(bench, examples, [{ name, bytes }]), openFiles: files => openFiles(bench, examples, files),
-    openLink,
+    openLink, hasCommand,
     isBusy: () => isBusy() || Boolean(bench.going || due.lists), ready: performance.now() }; }));
 }
 

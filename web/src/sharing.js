@@ -2,6 +2,7 @@
 
 import { byId, el } from './dom.js';
 import { unlessDropped } from './aside.js';
+import { baseOf, canDerive, derive, DERIVED } from './derived.js';
 import { download, copyText } from './files.js';
 import { note, openDialog } from './page.js';
 import { pictureOf, titleOf } from './picture.js';
@@ -20,7 +21,7 @@ const embedding = link => `<iframe width="800" height="450" src="${link.replace(
 
 // `fragment` is of what is seen; `lessonWords` of its lesson.
 export function openSharing(bench, fragment, lessonWords) {
-  const base = bench.title.replace(/\.\w+$/, '') || 'program', link = location.href.replace(/#.*/s, '') + fragment;
+  const base = baseOf(bench), link = location.href.replace(/#.*/s, '') + fragment;
   const { run } = bench, ran = run && run.length > 0;
   const whole = run && titleOf(bench) + ', after ' + bench.position;
   openDialog('Share', copy('Link', link), ran ? copy('The same by command line', commandLines(bench)) : null,
@@ -31,5 +32,7 @@ export function openSharing(bench, fragment, lessonWords) {
       run ? [file(base + '-locks.svg', () => boxPicture(byId('s-locks'), byId('locks'), 'Lock tree: ' + whole)),
         file(base + '-heap.svg', () => boxPicture(byId('s-heap'), byId('heap'), 'Heap: ' + whole)),
         file(base + '.img', () => bench.image)] : null,
+      Object.keys(DERIVED).filter(what => canDerive(bench, what)).map(what => el('button', { onclick: () => derive(bench, what) },
+        'Save ' + base + DERIVED[what].ending)),
       file(`${base}.${bench.kind}`, () => bench.text)));
 }

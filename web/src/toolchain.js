@@ -40,6 +40,11 @@ export const compile = (source, k, behind) => ofText(['compile', '--k', k], sour
 export const compileText = (source, k, behind) => text(ofText(['compile', '--k', k, '--text'], source, behind));
 // Whether the lists of a program are enough for a source. (Of a lesson, which a newer text does not end.)
 export const checkLists = (source, program, k) => text(ofRun(['check', '--k', k], `${source}\0${program}`));
+// Whether the module has a command: others answer wrong usage, 2.
+export const hasCommand = name => tool.call([name, '--help']).status === 0;
+// The source as a C program; its lists as one JSON document.
+export const cText = (source, k) => text(ofText(['c', '--k', k], source));
+export const listsText = (source, k) => text(ofText(['lists', '--k', k], source));
 export const mapText = source => text(ofText(['map'], source));
 export const explainText = (source, k, all) => text(ofText(['explain', '--k', k, ...(all ? ['--all'] : [])], source));
 export const diagnoseText = (source, k) => text(ofText(['diagnose', '--k', k], source));

@@ -101,7 +101,9 @@ await part('New, a name, and notes by keys; files get the name', async () => {
   check(await run("workbench.bench.title") === 'my lab.asl', 'the name: ' + await run('workbench.bench.title'));
   await key('s'); await settled();
   const files = await run("[...document.querySelectorAll('.files button')].map(e => e.textContent).join()");
-  check(files === ['workbench', 'run', 'svg', 'x', 'x', 'img', 'asl'].map((end, i) => 'Save my lab' + (end === 'x' ? ['-locks.svg', '-heap.svg'][i - 3] : '.' + end)).join(), 'files: ' + files);
+  const derived = await run("workbench.hasCommand('lists')") ? ['.c', '.json'] : ['.c'];
+  const ends = ['.workbench', '.run', '.svg', '-locks.svg', '-heap.svg', '.img', ...derived, '.asl'];
+  check(files === ends.map(end => 'Save my lab' + end).join(), 'files: ' + files);
   await run("document.getElementById('dialog').close()");
   await key('z');
   check(await run("document.getElementById('note-number').value") === '5', 'a note is meant for the line of the last event');

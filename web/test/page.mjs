@@ -521,6 +521,7 @@ await import('./keeping.mjs');
 await import('./opening.mjs');
 await import('./large.mjs');
 await import('./words.mjs');
+await import('./derived.mjs');
 await import('./waiting.mjs');
 beginGroup();
 await import('./own.mjs');

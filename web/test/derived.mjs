@@ -1,0 +1,47 @@
+// What the toolchain makes of the source, as files: the C program, and the lists as one JSON document.
+import { readFileSync } from 'node:fs';
+import { asl, browser, check, key, open, part, run, settled, textOf } from './kit.mjs';
+import { EXAMPLES } from './paths.mjs';
+
+// What is saved, { name, text }, when something is pressed; null where nothing is.
+const savedWhen = press => run(`(async () => { const made = URL.createObjectURL, { click } = HTMLAnchorElement.prototype; let saved = null, name = '';
+  URL.createObjectURL = blob => made.call(URL, /octet/.test(blob.type) ? saved = blob : blob); HTMLAnchorElement.prototype.click = function () { name = this.download; };
+  ${press};
+  for (let i = 0; i < 40 && !saved; i++) await new Promise(done => setTimeout(done, 50));
+  URL.createObjectURL = made; HTMLAnchorElement.prototype.click = click; return saved && JSON.stringify({ name, text: await saved.text() }); })()`).then(JSON.parse);
+const KEY = name => `document.dispatchEvent(new KeyboardEvent('keydown', { key: '${name}' }))`;
+const BUTTON = words => `[...document.querySelectorAll('.files button')].find(e => e.textContent === '${words}').click()`;
+const bank = readFileSync(EXAMPLES + 'bank.asl', 'utf8');
+
+await part('the C program and the lists are saved, by key and by button, as the native program prints them', async () => {
+  await open('#example=bank.asl&k=1&threads=2'); await settled();
+  const had = await run("workbench.hasCommand('lists')");
+  const wanted = { C: ['bank.c', ['c', '--k', 1]], ...(had ? { J: ['bank.json', ['lists', '--k', 1]] } : {}) };
+  for (const [name, [file, words]] of Object.entries(wanted)) {
+    const native = asl(words, bank).toString();
+    const byKey = await savedWhen(KEY(name));
+    check(byKey?.name === file && byKey.text === native, `${file} by key: ${byKey?.name}`);
+    await key('s'); await settled();
+    const byButton = await savedWhen(BUTTON('Save ' + file));
+    check(byButton?.name === file && byButton.text === native, `${file} by button: ${byButton?.name}`);
+    await run("document.getElementById('dialog').close()"); await settled();
+  }
+  await key('s'); await settled();
+  check((await textOf('.files')).includes('Save bank.json') === had, 'a button for what the module makes alone: ' + await textOf('.files'));
+  await run("document.getElementById('dialog').close()"); await settled();
+  if (!had) { await key('J'); check(/makes no document/.test(await textOf('#note')), await textOf('#note')); }
+  console.log(`       the module ${had ? 'has' : 'does not have'} the command lists`);
+});
+
+await part('no C program of an assembly text, nor of a text that is refused', async () => {
+  await open('#example=counter.asm&threads=2'); await settled();
+  await key('C');
+  check(/only of a source/.test(await textOf('#note')), await textOf('#note'));
+  await key('s'); await settled();
+  check(!/\.c\b|\.json/.test(await textOf('.files')), 'no button: ' + await textOf('.files'));
+  await run("document.getElementById('dialog').close()"); await settled();
+  await open('#example=bank.asl&k=1&threads=2');
+  await run("workbench.bench.type('fn main(t) { x = ; }')"); await browser.sleep(400); await settled();
+  await key('C'); await settled();
+  check(/does not compile/.test(await textOf('#note')), await textOf('#note'));
+});
