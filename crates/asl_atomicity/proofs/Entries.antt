@@ -1,5 +1,5 @@
 -- What a thread asks for at the entry of a section is not changed by another's step inside one.
-use Rattle.std.proofs.Common.{◌≡◌, ◌≢◌, ℕ, ◌==◌, ◌+◌, ◌⊎◌, ◌++◌, Bool, true, false, ◌<◌, List, [], ◌∷◌, Option, Some, None, slice_get, unwrap_or, refl, ap, sym, ◌∙◌, subst, inl, inr}
+use Rattle.std.proofs.Common.{◌≡◌, ◌≢◌, ℕ, ◌==◌, ◌+◌, ◌⊎◌, ◌++◌, Bool, true, false, ◌<◌, List, [], ◌∷◌, Option, Some, None, unwrap_or, refl, ap, sym, ◌∙◌, subst, inl, inr}
 use Rattle.std.specs.Prelude.{if◌then◌else◌, IsSome, nat_lt, option_and_then}
 use Rattle.std.specs.Option.{option_map_or}
 use Rattle.std.proofs.lemmas.Bool.Decides.{eqb_tells}
@@ -8,8 +8,6 @@ use Rattle.asl_code.specs.declared.value.Value.TheVariants.{Addr}
 use Rattle.asl_code.specs.declared.value.Cell.{Cell}
 use Rattle.asl_code.specs.declared.value.Effect.{Effect}
 use Rattle.asl_code.specs.declared.value.Effect.TheVariants.{Read}
-use Rattle.asl_code.specs.declared.lock.Base.{Base}
-use Rattle.asl_code.specs.declared.lock.Base.TheVariants.{Reg, Global}
 use Rattle.asl_code.specs.declared.lock.Lock.{Lock}
 use Rattle.asl_code.specs.declared.lock.Lock.TheVariants as lock
 use Rattle.asl_code.specs.declared.path.Op.{Op}
@@ -30,9 +28,8 @@ use Rattle.asl_machine.specs.Request.{heap_of, cell_asks, leaf_asks, asks_of, al
 use Rattle.asl_machine.specs.StepFunction.{holding_after, release_fate, holding_released}
 use Rattle.asl_machine.specs.Fresh.{PointElsewhere}
 use Rattle.asl_machine.proofs.Heaps.{class_there, class_of-written, size_of-written}
-use Rattle.asl_machine.proofs.WellFormedHeaps.{pointed_value}
-use Rattle.asl_expression.proofs.Paths.{star_reads, moved_stays}
 use Rattle.asl_atomicity.specs.Serial.{ReadsCovered, ListCovered}
+use Rattle.asl_atomicity.proofs.Away.{IsAway, off_away, star_away, base_away}
 use Rattle.asl_atomicity.proofs.Uniform.{HoldingEdit, After, Acquired, Released, edit}
 use Rattle.asl_atomicity.proofs.HoldingEdits.{edit_other}
 use Rattle.asl_atomicity.proofs.Unseen.{other_cell}
@@ -44,14 +41,14 @@ module _ (objects : List Object) (c0 : Cell) (v : Value) (there : IsSome (cell_a
     (unread : (c : Cell) (class : ℕ) → ¬ others c.object → class_of objects c.object ≡ Some class → Covers h u c class Read → c0 ≢ c)
     (reads : (c : Cell) (class : ℕ) → ¬ others c.object → class_of objects c.object ≡ Some class → Covers h u c class Read → (o i : ℕ) → cell_at objects c ≡ Some (Addr o i) → ¬ others o)
     (class0 : ℕ) (of0 : class_of objects c0.object ≡ Some class0) where
-  abbrev IsAway : Option Cell → Type 0
-  IsAway o = (c : Cell) → o ≡ Some c → ¬ others c.object
+  abbrev Away : Option Cell → Type 0
+  Away o = IsAway others ⊥ o
 
   off_same : (places : ℕ) (o : Option Cell) → option_and_then (walked (heap_of (written objects c0 v)) (Off places)) o ≡ option_and_then (walked (heap_of objects) (Off places)) o
   off_same places None = refl
   off_same places (Some c) = ap (option_and_then (λ size. if nat_lt (c.offset + places) size then Some (cell_of c.object (c.offset + places)) else None)) (size_of-written objects c0 v c.object)
 
-  star_same : (o : Option Cell) → IsAway o → ((c : Cell) (class : ℕ) → o ≡ Some c → class_of objects c.object ≡ Some class → Covers h u c class Read) →
+  star_same : (o : Option Cell) → Away o → ((c : Cell) (class : ℕ) → o ≡ Some c → class_of objects c.object ≡ Some class → Covers h u c class Read) →
       option_and_then (walked (heap_of (written objects c0 v)) Deref) o ≡ option_and_then (walked (heap_of objects) Deref) o
   star_same None away covered = refl
   star_same (Some c) away covered = ap (option_and_then pointed) (other_cell objects c0 c v apart there)
@@ -59,24 +56,16 @@ module _ (objects : List Object) (c0 : Cell) (v : Value) (there : IsSome (cell_a
       apart : c0 ≢ c
       apart same = let of = ap (λ (z : Cell). class_of objects z.object) (sym same) ∙ of0 in unread c class0 (away c refl) of (covered c class0 refl of) same
 
-  off_away : (places : ℕ) (o : Option Cell) → IsAway o → IsAway (option_and_then (walked (heap_of objects) (Off places)) o)
-  off_away places None away next e = cc
-  off_away places (Some c) away next e = subst (λ x. ¬ others x) (sym (moved_stays (heap_of objects) places c next e)) (away c refl)
+  reads_away : (o : Option Cell) → Away o → ((c : Cell) (class : ℕ) → o ≡ Some c → class_of objects c.object ≡ Some class → Covers h u c class Read) → Away (option_and_then (walked (heap_of objects) Deref) o)
+  reads_away o away covered =
+      star_away others ⊥ objects o (λ c e x k at. let of = class_there objects c (Addr x k) at in reads c of.0 (away c e) of.1 (covered c of.0 e of.1) x k at)
 
-  star_away : (o : Option Cell) → IsAway o → ((c : Cell) (class : ℕ) → o ≡ Some c → class_of objects c.object ≡ Some class → Covers h u c class Read) → IsAway (option_and_then (walked (heap_of objects) Deref) o)
-  star_away None away covered next e = cc
-  star_away (Some c) away covered next e =
-      let r = star_reads (heap_of objects) c next e in
-      let w = pointed_value r.0 next r.2 in
-      let x = class_there objects c r.0 r.1 in
-      reads c x.0 (away c refl) x.1 (covered c x.0 refl x.1) next.object w.0 (r.1 ∙ ap (λ y. Some y) w.1)
-
-  path_same : (ops : List Op) (o : Option Cell) → IsAway o → ReadsCovered h u objects ops o → path_cell (heap_of (written objects c0 v)) ops o ≡ path_cell (heap_of objects) ops o
+  path_same : (ops : List Op) (o : Option Cell) → Away o → ReadsCovered h u objects ops o → path_cell (heap_of (written objects c0 v)) ops o ≡ path_cell (heap_of objects) ops o
   path_same [] o away r = refl
   path_same (Off places ∷ ops) o away r =
-      ap (path_cell (heap_of (written objects c0 v)) ops) (off_same places o) ∙ path_same ops (option_and_then (walked (heap_of objects) (Off places)) o) (off_away places o away) r
+      ap (path_cell (heap_of (written objects c0 v)) ops) (off_same places o) ∙ path_same ops (option_and_then (walked (heap_of objects) (Off places)) o) (off_away others ⊥ objects places o away) r
   path_same (Deref ∷ ops) o away r =
-      ap (path_cell (heap_of (written objects c0 v)) ops) (star_same o away r.0) ∙ path_same ops (option_and_then (walked (heap_of objects) Deref) o) (star_away o away r.0) r.1
+      ap (path_cell (heap_of (written objects c0 v)) ops) (star_same o away r.0) ∙ path_same ops (option_and_then (walked (heap_of objects) Deref) o) (reads_away o away r.0) r.1
 
   cell_asks_same : (effect : Effect) (o : Option Cell) → cell_asks (written objects c0 v) effect o ≡ cell_asks objects effect o
   cell_asks_same effect None = refl
@@ -84,20 +73,12 @@ module _ (objects : List Object) (c0 : Cell) (v : Value) (there : IsSome (cell_a
 
   -- what begins on registers that point to no object of others, and on globals, of which none is theirs
   module _ (globals : ℕ) (none : (g : ℕ) → g < globals → ¬ others g) (regs : List Value) (far : (o : ℕ) → others o → PointElsewhere o regs) where
-    base_away : (b : Base) → ((g : ℕ) → b ≡ Global g → g < globals) → IsAway (base_cell regs b)
-    base_away (Global g) known c e f = (let is : cell_of g 0 ≡ c = cc in subst (λ x. ¬ others x) (ap (λ (z : Cell). z.object) is) (none g (known g refl)) f)
-    base_away (Reg r) known c e f =
-        elim (slice_get regs r) as (λ o. slice_get regs r ≡ o → option_and_then pointed o ≡ Some c → ⊥) [
-          | None ↦ λ is k. cc
-          | Some w ↦ λ is k. (let p = pointed_value w c k in far c.object f r p.0 (is ∙ ap (λ y. Some y) p.1))
-        ] refl e
-
     asks_same : (ls : List Lock) → HasGlobals globals ls → ListCovered h u objects regs ls → all_asks (written objects c0 v) regs ls ≡ all_asks objects regs ls
     asks_same [] known r = refl
     asks_same (lock.Root effect ∷ ls) known r = ap (λ z. asks_of objects regs (lock.Root effect) ++ z) (asks_same ls known r)
     asks_same (lock.Class class effect ∷ ls) known r = ap (λ z. asks_of objects regs (lock.Class class effect) ++ z) (asks_same ls known r)
     asks_same (lock.Expr e effect ∷ ls) known r =
-        ap (λ z. cell_asks (written objects c0 v) effect z ++ all_asks (written objects c0 v) regs ls) (path_same e.path (base_cell regs e.base) (base_away e.base known.0) r.0)
+        ap (λ z. cell_asks (written objects c0 v) effect z ++ all_asks (written objects c0 v) regs ls) (path_same e.path (base_cell regs e.base) (base_away others ⊥ regs e.base (λ g is. none g (known.0 g is)) (λ o k r at f. far o f r k at)) r.0)
         ∙ ap (λ z. z ++ all_asks (written objects c0 v) regs ls) (cell_asks_same effect (path_cell (heap_of objects) e.path (base_cell regs e.base)))
         ∙ ap (λ z. asks_of objects regs (lock.Expr e effect) ++ z) (asks_same ls known.1 r.1)
 

@@ -76,8 +76,8 @@ request_kept image s fr t u a b apart runs also ls known (Stored v (Ok c0)) lawf
     w.class w.of (length image.globals) (λ g lt f. (let le = (fr.there t g f).0 in omega (arith, lt, le))) b.top.regs (λ o f. (fr.registers u t o b apart f (ap (option_and_then activity_of) also)).0) ls known covered
 
 -- the globals that a list names are there, at its `acq`
-listed : (image : Image) (n : ℕ) (f : Function) (pc list : ℕ) → LiesIn image n pc f → FitsImage image → slice_get image.code pc ≡ Some (instr.Acquire list) → HasGlobals (length image.globals) (locks_of image list)
-listed image n f pc list lies fits at =
+pub globals_there : (image : Image) (n : ℕ) (f : Function) (pc list : ℕ) → LiesIn image n pc f → FitsImage image → slice_get image.code pc ≡ Some (instr.Acquire list) → HasGlobals (length image.globals) (locks_of image list)
+globals_there image n f pc list lies fits at =
     let k = fits.instr_fits n pc f (instr.Acquire list) lies at in
     subst (HasGlobals (length image.globals)) (sym (ap (λ o. unwrap_or o []) k.0.1)) (has_globals image n f k.0.0 k.0.2)
 
@@ -94,7 +94,7 @@ entries_unseen image count guarded s u t stands apart counts inside =
     let fr = run_apart image count s stands in
     let first = stepped image s t a fa.0 o h p inside.runs fa.1 (same_here image t a fa.0 o h) in
     let known : (b : Activity) (list : ℕ) → slice_get s.threads u ≡ Some (Running b) → slice_get image.code b.top.pc ≡ Some (instr.Acquire list) → HasGlobals (length image.globals) (locks_of image list) =
-    λ b list runs at. (let hb = here_of image s u b sound runs in listed image b.top.function hb.placed.function b.top.pc list hb.placed.lies sound.fits at) in
+    λ b list runs at. (let hb = here_of image s u b sound runs in globals_there image b.top.function hb.placed.function b.top.pc list hb.placed.lies sound.fits at) in
     let grown : (b : Activity) (list : ℕ) → slice_get s.threads u ≡ Some (Running b) → slice_get image.code b.top.pc ≡ Some (instr.Acquire list) → (cells class : ℕ) →
     request_of (made_objects o cells class) b.top.regs (locks_of image list) ≡ request_of o b.top.regs (locks_of image list) =
     λ b list runs at cells class.

@@ -3,6 +3,7 @@ pub mod Uniform
 pub mod HoldingEdits
 pub mod Stores
 pub mod Unseen
+pub mod Away
 pub mod Entries
 pub mod Guards
 -- neighbouring steps change places

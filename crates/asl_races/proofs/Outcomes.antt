@@ -1,5 +1,5 @@
 -- A try with care has one outcome: whether another thread covers a cell for writing can be told, since a holding is a finite map.
-use Rattle.std.proofs.Common.{◌≡◌, ◌≢◌, ◌⊎◌, ℕ, zero, suc, ◌<◌, Bool, true, false, List, [], ◌∷◌, Option, Some, None, length, slice_get, refl, ap, sym, ◌∙◌, subst, inl, inr, arith}
+use Rattle.std.proofs.Common.{◌≡◌, ◌≢◌, ◌⊎◌, ℕ, zero, suc, ◌<◌, true, false, List, [], ◌∷◌, Option, Some, None, length, slice_get, refl, ap, sym, ◌∙◌, subst, inl, inr, arith}
 use Rattle.std.specs.Prelude.{if◌then◌else◌}
 use Rattle.std.proofs.lemmas.Option.{same_Some, slice_get_within}
 use Rattle.std.proofs.Math.Nat.{eq-or-lt_of_le}
@@ -9,10 +9,9 @@ use Rattle.asl_code.specs.declared.value.Cell.{Cell}
 use Rattle.asl_code.specs.declared.value.Effect.TheVariants.{Write}
 use Rattle.asl_mode_lanes.specs.declared.mode.Mode.{Mode}
 use Rattle.asl_mode_lanes.specs.declared.mode.Mode.TheVariants.{NL, IS, IX, S, SIX, X}
-use Rattle.asl_mode_lanes.specs.Mode.{AtMost, is_compatible, AreCompatible}
-use Rattle.asl_mode_lanes.proofs.ModeLaws.{compatible-NL}
+use Rattle.asl_mode_lanes.specs.Mode.{AtMost, is_compatible}
 use Rattle.asl_lock_forest.specs.declared.node.Node.{Node}
-use Rattle.asl_lock_forest.specs.Holding.{Holding, Request, held, asked, Covers, CanGrant, can_grant}
+use Rattle.asl_lock_forest.specs.Holding.{Holding, Request, held, asked, CanGrant, can_grant}
 use Rattle.asl_lock_forest.specs.Request.{IsRefusedRequest}
 use Rattle.asl_lock_forest.proofs.Grantable.{can_grant-tells, can_grant-refused, CanGrant-tested}
 use Rattle.asl_lock_forest.proofs.Laws.{tell_nodes}
@@ -20,7 +19,7 @@ use Rattle.asl_lock_forest.proofs.NinePairs.{Where, at_leaf, at_class, at_root, 
 use Rattle.asl_machine.specs.State.{Object, class_of}
 use Rattle.asl_machine.specs.Request.{request_of}
 use Rattle.asl_races.specs.Visits.{Visit, visit, visited}
-use Rattle.asl_races.specs.Tries.{IsHeldByAnother, ComesTo, IsGrantedWithCare, StopsAt, Outcome, Granted, Refused, Stopped, IsOutcome}
+use Rattle.asl_races.specs.Tries.{IsHeldByAnother, ComesTo, StopsAt, Outcome, Granted, Refused, Stopped, IsOutcome}
 use Rattle.asl_races.proofs.TriesAfter.{only_X}
 
 up_to : (n k : ℕ) → n < suc k → (n ≡ k) ⊎ (n < k)

@@ -1,7 +1,7 @@
 -- The cells that an evaluation comes to: they are there; and an evaluation that reads no cell in which the address of an object of others
 -- stands comes to no cell of such an object.
-use Rattle.std.proofs.Common.{◌≡◌, ◌≢◌, ℕ, zero, suc, ◌<◌, ◌≤◌, ◌⊎◌, ◌++◌, true, false, List, [], ◌∷◌, Option, Some, None, length, slice_get, refl, ap, sym, ◌∙◌, subst, inl, inr, arith}
-use Rattle.std.specs.Prelude.{IsSome, option_and_then}
+use Rattle.std.proofs.Common.{◌≡◌, ◌≢◌, ℕ, zero, suc, ◌<◌, ◌≤◌, ◌⊎◌, ◌++◌, true, false, List, [], ◌∷◌, Option, Some, None, length, slice_get, refl, ap, sym, subst, inl, inr, arith}
+use Rattle.std.specs.Prelude.{IsSome}
 use Rattle.std.proofs.lemmas.Option.{same_Some}
 use Rattle.asl_code.specs.declared.image.Image.{Image}
 use Rattle.asl_code.specs.declared.lock.Base.{Base}
@@ -16,17 +16,16 @@ use Rattle.asl_code.specs.declared.value.Cell.{Cell}
 use Rattle.asl_code.specs.declared.value.Effect.TheVariants.{Read}
 use Rattle.asl_code.specs.Fits.{HasBase}
 use Rattle.asl_lock_forest.specs.Holding.{Holding, Covers}
-use Rattle.asl_expression.specs.Expression.{cell_of, pointed, base_cell, walked}
-use Rattle.asl_expression.proofs.Paths.{star_reads, moved_stays}
+use Rattle.asl_expression.specs.Expression.{base_cell, walked}
 use Rattle.asl_machine.specs.State.{Object, cell_at, class_of}
 use Rattle.asl_machine.specs.Access.{AllPoint}
 use Rattle.asl_machine.specs.Request.{heap_of}
 use Rattle.asl_machine.specs.WellFormed.{AreWellFormed}
 use Rattle.asl_machine.proofs.Heaps.{class_there}
 use Rattle.asl_machine.proofs.Nodes.{Denotes, base_there, path_there}
-use Rattle.asl_machine.proofs.WellFormedHeaps.{pointed_value}
 use Rattle.asl_atomicity.specs.Serial.{ReadsCovered, ListCovered}
 use Rattle.asl_atomicity.proofs.Renaming.{HasGlobals}
+use Rattle.asl_atomicity.proofs.Away.{IsAway, off_away, star_away, base_away}
 use Rattle.asl_races.specs.Visits.{Visit, visit, reads, visits, visited}
 
 -- the first of some visits, and those after it
@@ -47,8 +46,8 @@ one_more k n lt = omega (arith, lt)
 -- an address in an object of others stands in a cell of such an object, or in a barred one; who reads a barred one comes to the goal
 module _ (objects : List Object) (others : ℕ → Type 0) (Barred : Cell → Type 0) (Goal : Type 0)
     (shut : (o k : ℕ) (c : Cell) → others o → cell_at objects c ≡ Some (Addr o k) → others c.object ⊎ Barred c) where
-  abbrev IsAway : Option Cell → Type 0
-  IsAway at = (c : Cell) → at ≡ Some c → others c.object → Goal
+  abbrev Away : Option Cell → Type 0
+  Away at = IsAway others Goal at
 
   -- of these visits, so many, each that reads a barred cell comes to the goal
   abbrev IsBarring : List Visit → ℕ → Type 0
@@ -57,14 +56,12 @@ module _ (objects : List Object) (others : ℕ → Type 0) (Barred : Cell → Ty
   later : (v : Visit) (vs : List Visit) (place : ℕ) → IsBarring (v ∷ vs) (suc place) → IsBarring vs place
   later v vs place bars n c lt at = bars (suc n) c (one_more n place lt) at
 
-  step_away : (op : Op) (c : Cell) → IsAway (Some c) → (reads op ≡ true → Barred c → Goal) → IsAway (walked (heap_of objects) op c)
-  step_away (Off places) c away bars next e other = away c refl (subst others (moved_stays (heap_of objects) places c next e) other)
-  step_away Deref c away bars next e other =
-      let r = star_reads (heap_of objects) c next e in
-      let w = pointed_value r.0 next r.2 in
-      elim (shut next.object w.0 c other (r.1 ∙ ap (λ y. Some y) w.1)) [ inl inside ↦ away c refl inside | inr barred ↦ bars refl barred ]
+  step_away : (op : Op) (c : Cell) → Away (Some c) → (reads op ≡ true → Barred c → Goal) → Away (walked (heap_of objects) op c)
+  step_away (Off places) c away bars = off_away others Goal objects places (Some c) away
+  step_away Deref c away bars =
+      star_away others Goal objects (Some c) (λ d same o k at other. elim (shut o k d other at) [ inl inside ↦ away d same inside | inr barred ↦ bars refl (subst Barred (sym (same_Some _ _ same)) barred) ])
 
-  path_away : (ops : List Op) (at : Option Cell) (rest : List Visit) → IsAway at → (n : ℕ) (v : Visit) → slice_get (visits objects ops at ++ rest) n ≡ Some v → IsBarring (visits objects ops at ++ rest) n → others v.cell.object →
+  path_away : (ops : List Op) (at : Option Cell) (rest : List Visit) → Away at → (n : ℕ) (v : Visit) → slice_get (visits objects ops at ++ rest) n ≡ Some v → IsBarring (visits objects ops at ++ rest) n → others v.cell.object →
       Goal ⊎ ((m : ℕ) × (slice_get rest m ≡ Some v) × IsBarring rest m)
   path_away [] None rest away n v is bars other = inr (n, is, bars)
   path_away [] (Some c) rest away zero v is bars other = inl (away c refl (subst (λ (x : Visit). others x.cell.object) (sym (first_is (visit c false) v rest is)) other))
@@ -77,23 +74,15 @@ module _ (objects : List Object) (others : ℕ → Type 0) (Barred : Cell → Ty
       path_away ops next rest (step_away op c away (λ e. bars zero c (above_zero n) (ap (λ b. Some (visit c b)) e))) n v is (later (visit c (reads op)) (visits objects ops next ++ rest) n bars) other
 
   module _ (globals : ℕ) (regs : List Value) (above : (o : ℕ) → others o → globals ≤ o) (far : (o k r : ℕ) → others o → slice_get regs r ≢ Some (Addr o k)) where
-    base_away : (b : Base) → ((n : ℕ) → b ≡ Global n → n < globals) → IsAway (base_cell regs b)
-    base_away (Global n) known c e is =
-        let le = above c.object is in
-        let lt = known n refl in
-        let same : n ≡ c.object = (let k : cell_of n 0 ≡ c = cc in ap (λ (z : Cell). z.object) k) in
-        absurd (omega (arith, le, lt, same))
-    base_away (Reg r) known c e is =
-        absurd (elim (slice_get regs r) as (λ o. slice_get regs r ≡ o → option_and_then pointed o ≡ Some c → ⊥) [
-          | None ↦ λ at k. cc
-          | Some w ↦ λ at k. (let p = pointed_value w c k in far c.object p.0 r is (at ∙ ap (λ y. Some y) p.1))
-        ] refl e)
+    begins_away : (b : Base) → ((n : ℕ) → b ≡ Global n → n < globals) → Away (base_cell regs b)
+    begins_away b known =
+        base_away others Goal regs b (λ n is other. absurd (let le = above n other in let lt = known n is in omega (arith, le, lt))) (λ o k r at other. absurd (far o k r other at))
 
     -- what begins on globals and on registers that have no address in an object of others comes to the goal before it comes to such an object
     pub visited_away : (ls : List Lock) → HasGlobals globals ls → (n : ℕ) (v : Visit) → slice_get (visited objects regs ls) n ≡ Some v → IsBarring (visited objects regs ls) n → others v.cell.object → Goal
     visited_away [] known n v is bars other = absurd cc
     visited_away (lock.Expr e effect ∷ ls) known n v is bars other =
-        elim (path_away e.path (base_cell regs e.base) (visited objects regs ls) (base_away e.base known.0) n v is bars other) [
+        elim (path_away e.path (base_cell regs e.base) (visited objects regs ls) (begins_away e.base known.0) n v is bars other) [
           | inl goal ↦ goal
           | inr rest ↦ visited_away ls known.1 rest.0 v rest.1 rest.2 other
         ]
