@@ -103,3 +103,20 @@ await part('chosen panels in an iframe of 800 by 450: code, timeline and locks',
   check(!(await off(['#s-heap', '#s-threads'])).length && !await run("document.getElementById('s-code').checkVisibility()"), 'other panels');
   await browser.size(1400, 1000);
 });
+
+await part('the bar stays in the window: a lecture that is low, with a long name, and chosen panels on a phone', async () => {
+  const tooWide = () => run('document.documentElement.scrollWidth - innerWidth');
+  const name = 'a-name-that-is-much-longer-than-its-room-in-the-bar.asl', text = 'fn main(t) { return t; }';
+  for (const [width, height] of [[1400, 390], [1000, 450], [1280, 720]]) {
+    await browser.size(width, height);
+    await open('#example=walk.asl&k=3&threads=2&steps=0101&at=4&lecture');
+    await run(`workbench.bench.load({ text: '${text}', kind: 'asl', title: '${name}' }).then(() => 1)`); await settled();
+    check(await tooWide() <= 0, `${width} by ${height}: ${await tooWide()} pixels too wide`);
+  }
+  for (const [width, height] of [[420, 768], [800, 450]]) for (const look of ['lecture', 'lecture&size=25', 'size=13']) {
+    await browser.size(width, height);
+    await open('#example=walk.asl&k=3&threads=2&steps=0101&at=4&view=time,code,locks&' + look); await settled();
+    check(await tooWide() <= 0, `${width} by ${height}, ${look}: ${await tooWide()} pixels too wide`);
+  }
+  await browser.size(1400, 1000);
+});

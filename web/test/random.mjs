@@ -1,6 +1,9 @@
-// Random actions by seed for as long as told: no script error may come, and memory must not grow.
-//   node --experimental-websocket web/test/random.mjs [MINUTES [SEED]]      an hour, if nothing is said
+// Random actions by seed for as long as told (tests/by-hand/page). After each, what invariants.mjs says must be true: no script error, no
+// text that undo does not bring back, a lecture as wide as its window, a run that is that of a fresh replay; now and then that redo brings
+// back what undo has left, and a reload too. Memory must not grow. Where something is wrong, the last actions are told.
+//   node --experimental-websocket --experimental-wasm-memory64 web/test/random.mjs [MINUTES [SEED]]      an hour, if nothing is said
 import { openChromium } from './chromium.mjs';
+import { watch } from './invariants.mjs';
 import { PAGE, READY } from './paths.mjs';
 
 const MINUTES = Number(process.argv[2] || 60), SEED = Number(process.argv[3] || 1);
@@ -63,6 +66,13 @@ const ACTIONS = [
   [1, () => browser.run(`location.hash = '#example=${one(EXAMPLES)}&k=${below(9)}&threads=${1 + below(20)}&steps=00112210&at=${below(9)}'`)],
   [1, () => browser.size(one([420, 844, 1024, 1400]), one([390, 768, 1000]))],
 ];
+// To the address before; where that is another page than this, this one is opened anew.
+async function goBack() {
+  await browser.run('setTimeout(() => history.back()), 1');
+  await browser.sleep(150);
+  const is = await browser.run('Boolean(window.workbench)').catch(() => false);
+  if (!is) await browser.open(PAGE, READY);
+}
 // Opens a few files at once.
 function openSome() {
   const names = Array.from({ length: 1 + below(3) }, () => one(Object.keys(FILES)));
@@ -84,10 +94,31 @@ ACTIONS.push([3, openSome], [1, () => browser.strike('N')], [2, () => writeInto(
   [1, () => browser.run(click('#trouble-close, #away button, #notes .link, #menu, #lists, #whole'))],
   [1, () => browser.run(`document.getElementById('editor').scrollTop = ${below(60000)}`)],
   [1, () => browser.run(`workbench.bench.load({ text: ${JSON.stringify(LONG)}, kind: 'asl', title: 'long.asl' }).then(() => 1)`)]);
+// Files that are dropped; an address before; words that are typed by keys; New; the C program, and the lists.
+ACTIONS.push([2, () => browser.run(`(() => { const given = new DataTransfer(), names = ${JSON.stringify([one(Object.keys(FILES)), one(Object.keys(FILES))])};
+    const files = ${JSON.stringify(FILES)}; for (const name of names) given.items.add(new File([files[name]], name));
+    dispatchEvent(new DragEvent('drop', { dataTransfer: given, cancelable: true })); })()`)],
+  [1, goBack],
+  [3, async () => { await browser.strike('e'); await browser.typed(one(['x', 'global q;\n', '; ', '\n\n', 'y = t;'])); await browser.strike('Escape'); }],
+  [1, () => browser.strike(one(['C', 'J']))],
+  [1, async () => { await browser.run("document.getElementById('rename').click()"); await browser.sleep(20); await browser.run(`(() => { const f = document.getElementById('asked'); if (f) f.value = 'name ${below(9)}'; })()`); await browser.strike('Enter'); }]);
 const whole = ACTIONS.reduce((sum, [weight]) => sum + weight, 0);
 function action() {
   let at = below(whole);
   for (const [weight, act] of ACTIONS) { if (at < weight) return act; at -= weight; }
+}
+
+// What the browser was asked to do by the last actions, to be told where something is wrong.
+const log = [];
+const noted = name => { const ask = browser[name]; browser[name] = (...words) => { if (acting) log.push(`${name} ${words.join(' ').slice(0, 300)}`); return ask.apply(browser, words); }; };
+let acting = false;
+['strike', 'run', 'size', 'typed'].forEach(noted);
+async function act() {
+  log.push('--');
+  if (log.length > 400) log.splice(0, 200);
+  acting = true;
+  await action()();
+  acting = false;
 }
 
 // Megabytes of the page's own objects and buffers, and of the module's memory, which never shrinks; and elements.
@@ -104,9 +135,14 @@ await browser.size(1400, 1000);
 await browser.open(PAGE, READY);
 const began = Date.now(), told = [];
 let done = 0, most = 0;
-for (let next = 0; Date.now() - began < MINUTES * 60000 && !browser.errors.length; done++) {
-  await action()();
+const look = await watch(browser);
+let wrong = null;
+process.on('uncaughtException', async error => { console.log(error, log.slice(-20).join('\n')); await browser.close(); process.exit(1); });
+for (let next = 0; Date.now() - began < MINUTES * 60000 && !browser.errors.length && !wrong; done++) {
+  await act();
   if (done % 4 === 0) await browser.frames();
+  // (some actions in a row, so that they come while another is under way)
+  if (below(3)) wrong = await look(['undo', 'reload'][below(25)]);
   if (Date.now() - began < next) continue;
   next = Date.now() - began + MINUTES * 60000 / 30;
   const { own, module, nodes } = await memory();
@@ -115,11 +151,12 @@ for (let next = 0; Date.now() - began < MINUTES * 60000 && !browser.errors.lengt
   const minutes = ((Date.now() - began) / 60000).toFixed(1);
   console.log(`${minutes} min, ${done} actions: ${own.toFixed(1)} MB of the page, ${module.toFixed(1)} MB of the module, ${nodes} nodes`);
 }
-const middle = list => [...list].sort((a, b) => a - b)[list.length >> 1];
+const middle = list => [...list].sort((a, b) => a - b)[list.length >> 1] || 0;
 const early = middle(told.slice(told.length / 6, told.length / 2)), late = middle(told.slice(told.length / 2));
 console.log(`seed ${SEED}: ${done} actions, ${browser.errors.length} errors; ${early.toFixed(1)} MB in the first half, ${late.toFixed(1)} MB in the second`);
 browser.errors.slice(0, 5).forEach(text => console.log(text));
+if (wrong) console.log('the last actions:\n' + log.slice(-40).join('\n') + '\nWRONG:', wrong);
 const grew = late > early * 1.25 + 8 || most > 512;
 if (grew) console.log('memory grows');
 await browser.close();
-process.exit(browser.errors.length || grew ? 1 : 0);
+process.exit(browser.errors.length || grew || wrong ? 1 : 0);
