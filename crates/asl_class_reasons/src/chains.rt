@@ -86,7 +86,7 @@ impl Chains {
 impl Reasons {
     ghost use Rattle.asl_class_reasons.specs.declared.place.Place.TheVariants.{Member};
 
-    /// All chains from one place: a search, for which each step is looked at once or twice, and which serves all places.
+    /// All chains from one place: a search, for which each step is looked at three times at most, and which serves all places.
     pub fn chains_from(&self, alloc: Global, from: Place) -> Result<Chains, AllocError>
         ensures chains { IfOk result (AreChains self.now.steps) }
         ensures shaped { IfOk result IsShaped }
