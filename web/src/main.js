@@ -326,6 +326,7 @@ async function start() {
   Object.assign(examples, data.examples);
   takeLessons(data.lessons, examples);
   takeLook(wordsOfFragment(location.hash));
+  for (const old of document.querySelectorAll('#example > option:not(:first-child)')) old.remove(); // of a page that was saved whole
   byId('opened').before(...Object.entries(examples).map(([name, { about }]) => make(el('option', { value: name },
     `${name} – ${about}`))));
   await openToolchain(window.carried.module, data.worker, waitingChanged);

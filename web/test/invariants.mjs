@@ -69,7 +69,14 @@ export async function watch(browser) {
   // `turn` is 'undo' or 'reload' where that is to be tried too.
   return async function look(turn) {
     if (!await browser.run('Boolean(window.workbench)').catch(() => false)) return null;
-    const now = await seen();
+    let now = await seen();
+    // (a file may have come just then: its text is shown once it is compiled)
+    for (let i = 0; i < 3 && now.field !== now.moment.text; i++) {
+      await browser.sleep(300);
+      const { known } = now;
+      now = await seen();
+      now.known ||= known;
+    }
     if (browser.errors.length) return browser.errors[0];
     const field = now.field === now.moment.text ? null : 'the field has another text than the workbench';
     const wide = now.lecture && now.wide > 0

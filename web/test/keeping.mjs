@@ -99,6 +99,10 @@ await part('New, a name, and notes by keys; files get the name', async () => {
   await run("document.getElementById('rename').click()");
   await run("document.getElementById('asked').value = 'my / lab'"); await key('Enter'); await calm();
   check(await run("workbench.bench.title") === 'my lab.asl', 'the name: ' + await run('workbench.bench.title'));
+  await key('u'); await settled();
+  check(await run("workbench.bench.title") === 'counter.asl' && String(await at()) === '4,4', 'undo brings the name back');
+  await key('U'); await settled();
+  check(await run("workbench.bench.title") === 'my lab.asl' && String(await at()) === '4,4', 'redo brings the new one');
   await key('s'); await settled();
   const files = await run("[...document.querySelectorAll('.files button')].map(e => e.textContent).join()");
   const derived = await run("workbench.hasCommand('lists')") ? ['.c', '.json'] : ['.c'];

@@ -6,7 +6,7 @@ import { join } from 'node:path';
 import { fileURLToPath } from 'node:url';
 import { deflateRawSync } from 'node:zlib';
 import { asl, at, beginGroup, browser, calm, check, finish, hasMemory64, key, open, part, run, settled, textOf } from './kit.mjs';
-import { EXAMPLES, PAGE } from './paths.mjs';
+import { EXAMPLES, PAGE, READY } from './paths.mjs';
 
 const type = async text => {
   await run(`(() => { const t = document.getElementById('text'); t.value = ${JSON.stringify(text)}; t.dispatchEvent(new Event('input')); })()`);
@@ -46,6 +46,19 @@ await part('loads without script errors and without network', async () => {
   check(blocked === 'refused', 'the policy lets fetch through');
   await settled();
   const others = browser.errors.filter(text => !/example\.com/.test(text));
+  check(others.length === 0, 'errors ' + others);
+  browser.errors.length = 0;
+});
+
+await part('a page that a browser has saved whole, as it was then, opens as the page itself', async () => {
+  await open('#example=counter.asl&k=3&threads=2&steps=0011&at=4&lecture'); await settled();
+  const count = () => run("[document.querySelectorAll('#example option').length, document.scripts.length].join()"), before = await count();
+  const page = join(mkdtempSync(join(tmpdir(), 'workbench-')), 'saved.html');
+  writeFileSync(page, '<!doctype html>\n' + await run('document.documentElement.outerHTML'));
+  await browser.open('file://' + page + '#example=bank.asl&k=1&threads=2&steps=0101&at=4', READY); await calm();
+  check(await run('workbench.bench.title') === 'bank.asl' && String(await at()) === '4,4' && await count() === before, `${before}, ${await count()}`);
+  check(await run("!document.body.classList.contains('lecture')"), 'its look is that of its link');
+  const others = browser.errors.filter(text => !/style/.test(text)); // the styles of single elements, which the policy lets no file have
   check(others.length === 0, 'errors ' + others);
   browser.errors.length = 0;
 });
