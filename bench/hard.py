@@ -50,3 +50,30 @@ def callees(functions, registers, sections, first, second):
     loads = one_of("q", [f"&p[{n}]" for n in range(first)]) + "y=*q;" + one_of("z", [f"&y[{n}]" for n in range(second)]) + "x=*z;"
     bodies = "".join("fn %s(){x=0;return x;}" % it for it in names)
     return bodies + "fn main(t){p=new 255;atomic{*p=p;}" + in_sections(sections, called + loads) + "return t;}"
+
+
+def steps(copies, loads, sections):
+    """Sections in one another, each with so many loads of one cell after so many copies of its address: each load needs the lock by way
+    of all copies."""
+    body = "b=a;a=b;" * (copies // 2) + "x=*a;" * loads
+    return "global g;fn main(t){a=&g;" + in_sections(sections, body) + "return t;}"
+
+
+def branches(branches, sections, loads):
+    """Sections in one another, each with so many branches before loads of so many globals."""
+    body = "if t{}" * branches + "".join(f"p=&g{n};x=*p;" for n in range(loads))
+    return globals_of(loads) + "fn main(t){" + in_sections(sections, body) + "return t;}"
+
+
+def members(members, sections):
+    """So many sections that lock one class of so many members."""
+    made = "n=new 1;" * members
+    return "global g;fn main(t){p=&g;" + made + "atomic{*p=n;}atomic{c=*p;*c=c;}" + "atomic{while t{n=*n;}}" * sections + "return t;}"
+
+
+def order(sections, first, second):
+    """Sections that call one body, whose first times second locks differ only behind the fifth operation of their paths."""
+    front = "fn f(){t=0;p=&g;a=*p;b=&a[0];c=*b;d=&c[0];e=*d;"
+    fanned = one_of("q", [f"&e[{n}]" for n in reversed(range(first))]) + "y=*q;" + one_of("z", [f"&y[{n}]" for n in reversed(range(second))])
+    sought = "fn main(t){p=&g;n=new 255;atomic{*p=n;*n=n;}" + "atomic{x=f();}" * sections + "return t;}"
+    return "global g;" + front + fanned + "x=*z;return t;}" + sought
