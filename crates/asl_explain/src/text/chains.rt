@@ -143,17 +143,13 @@ impl Teller<'_> {
         statements: &mut Vec<u16>,
     ) -> Result<(), AllocError> {
         statements.sort_unstable();
-        let mut names = Vec::new(self.alloc);
-        for pc in statements.as_slice() {
-            names.push(self.place(*pc)?)?;
-        }
         if need.lock == listed.lock {
             text.push_str("      also for: ")?;
         } else {
             let words = self.words(function, &need.lock)?;
             write!(text, "      contains {words}, for: ")?;
         }
-        self.push_named(text, &names)?;
+        self.push_statements(text, statements.as_slice())?;
         text.push_str("\n")
     }
 

@@ -9,6 +9,15 @@ use asl_lower::Section;
 use std::alloc::AllocError;
 use std::fmt::Write;
 
+/// A member of a class.
+#[derive(Clone, Copy)]
+enum Member {
+    /// The global of a number.
+    Global(u16),
+    /// The objects that are made by the `new` at a pc.
+    Site(u16),
+}
+
 impl Teller<'_> {
     /// Adds why expressions became classes, if the list would be too long.
     pub(crate) fn push_coarse(
@@ -82,60 +91,89 @@ impl Teller<'_> {
         let mut members = Vec::new(self.alloc);
         self.add_globals(class, &mut members)?;
         self.add_sites(class, &mut members)?;
+        let shown = self.count_shown(members.len());
         text.push_str("{ ")?;
-        self.push_named(text, &members)?;
+        for (place, member) in members.iter().enumerate() {
+            if place >= shown {
+                break;
+            }
+            text.push_str(between(place))?;
+            self.push_member(text, *member)?;
+        }
+        push_more(text, shown, members.len())?;
         text.push_str(" }")
     }
 
     /// Adds the globals of a class.
-    pub(crate) fn add_globals(
-        &self,
-        class: u16,
-        members: &mut Vec<String>,
-    ) -> Result<(), AllocError> {
+    fn add_globals(&self, class: u16, members: &mut Vec<Member>) -> Result<(), AllocError> {
         for (global, own) in self.analysis.classes.globals().iter().enumerate() {
             if *own == class {
-                let name = self.places.global(narrow(global))?;
-                members.push(format!(in self.alloc; "`{name}`")?)?;
+                members.push(Member::Global(narrow(global)))?;
             }
         }
         Ok(())
     }
 
     /// Adds the statements that make objects of a class.
-    pub(crate) fn add_sites(
-        &self,
-        class: u16,
-        members: &mut Vec<String>,
-    ) -> Result<(), AllocError> {
+    fn add_sites(&self, class: u16, members: &mut Vec<Member>) -> Result<(), AllocError> {
         for (pc, instr) in self.analysis.lowering.code().iter().enumerate() {
             if let Instr::New { class: site, .. } = instr {
                 if self.places.class_of_site(*site) == Some(class) {
-                    members.push(self.place(narrow(pc))?)?;
+                    members.push(Member::Site(narrow(pc)))?;
                 }
             }
         }
         Ok(())
     }
 
-    /// Adds the first of these texts, or all of them if they are to be reported.
-    pub(crate) fn push_named(&self, text: &mut String, names: &[String]) -> Result<(), AllocError> {
-        let mut shown = names.len();
-        if shown > MAX_NAMED && !self.all {
-            shown = MAX_NAMED - 1;
-        }
-        for (place, name) in names.iter().enumerate() {
-            if place < shown {
-                if place > 0 {
-                    text.push_str(", ")?;
-                }
-                text.push_str(name.as_str())?;
+    /// Adds a member of a class.
+    fn push_member(&self, text: &mut String, member: Member) -> Result<(), AllocError> {
+        match member {
+            Member::Global(global) => {
+                let name = self.places.global(global)?;
+                write!(text, "`{name}`")
             }
+            Member::Site(pc) => text.push_str(self.place(pc)?.as_str()),
         }
-        if shown < names.len() {
-            let more = names.len() - shown;
-            write!(text, ", and {more} more")?;
-        }
-        Ok(())
     }
+
+    /// Adds the statements of the first of these instructions, or of all of them if they are to be shown.
+    pub(crate) fn push_statements(
+        &self,
+        text: &mut String,
+        statements: &[u16],
+    ) -> Result<(), AllocError> {
+        let shown = self.count_shown(statements.len());
+        for (place, pc) in statements.iter().enumerate() {
+            if place >= shown {
+                break;
+            }
+            text.push_str(between(place))?;
+            text.push_str(self.place(*pc)?.as_str())?;
+        }
+        push_more(text, shown, statements.len())
+    }
+
+    /// How many of so many are shown.
+    fn count_shown(&self, count: usize) -> usize {
+        if count > MAX_NAMED && !self.all {
+            MAX_NAMED - 1
+        } else {
+            count
+        }
+    }
+}
+
+/// What parts one of a list from those before it.
+fn between(place: usize) -> &'static str {
+    if place > 0 { ", " } else { "" }
+}
+
+/// Adds how many of a list are not shown.
+fn push_more(text: &mut String, shown: usize, count: usize) -> Result<(), AllocError> {
+    let more = count.saturating_sub(shown);
+    if more == 0 {
+        return Ok(());
+    }
+    write!(text, ", and {more} more")
 }
