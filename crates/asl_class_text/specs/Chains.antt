@@ -1,0 +1,18 @@
+-- Chains as they are told: each step with its number in the list of reasons (docs/ANALYSIS.md, "Why one class").
+use Rattle.std.specs.Prelude.{◌≡◌, List, [], ◌∷◌, Some, slice_get}
+use Rattle.asl_class_reasons.specs.declared.place.Place.{Place}
+use Rattle.asl_class_reasons.specs.declared.place.Step.{Step}
+use Rattle.asl_class_reasons.specs.declared.place.Link.{Link}
+use Rattle.asl_class_text.specs.declared.told.ToldStep.{ToldStep}
+use Rattle.asl_class_text.specs.Kinds.{start_of, end_of}
+
+-- the told steps lead from one place to another, and each is the one of its number
+abbrev pub IsToldChain : List Step → Place → List ToldStep → Place → Type 0
+IsToldChain steps a [] b = a ≡ b
+IsToldChain steps a (t ∷ ts) b = (slice_get steps t.number ≡ Some t.step) × (start_of t ≡ a) × IsToldChain steps (end_of t) ts b
+
+-- the told step is that of a link from a place
+pub record IsTold (steps : List Step) (at : Place) (k : Link) (t : ToldStep) : Type 0 where
+  pub its : slice_get steps t.number ≡ Some t.step
+  pub starts : start_of t ≡ at
+  pub ends : end_of t ≡ k.into

@@ -1,0 +1,8 @@
+pub mod Numbered
+pub mod Places
+pub mod Kinds
+pub mod Texts
+pub mod Chains
+pub mod Classes
+-- Machinery of the proofs, not of the promise:
+pub mod Made

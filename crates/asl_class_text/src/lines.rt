@@ -1,0 +1,211 @@
+//! The lines of a chain, and those around it.
+ghost use Rattle.std.specs.Prelude.{◌≡◌, ◌++◌, OnOk, string_bytes, replicate};
+ghost use Rattle.std.specs.List.{flat_map};
+ghost use Rattle.asl_class_text.specs.Kinds.{is_passed, goes_through_parameters};
+ghost use Rattle.asl_class_text.specs.Texts.{padded, place_columns, way_line, merge_line, step_line, head_line, parameters_line, without_line, pair_lines};
+
+use crate::facts::Facts;
+use crate::kinds::{Kind, kind_of};
+use crate::phrases::{merge_words, way_words};
+use crate::statements::{line_at, statement_at};
+use crate::told::{ToldPair, ToldStep};
+use crate::words::member_words;
+use asl_class_reasons::Cause;
+use std::alloc::{AllocError, Global};
+use std::fmt::Write;
+
+/// Adds so many blanks.
+#[tactic(auto, using(crate::proofs::Lined::blank_more))]
+fn push_blanks(text: &mut String, count: usize) -> Result<(), AllocError>
+    ensures { OnOk result (string_bytes text.new ≡ string_bytes text.old ++ replicate count 32) }
+{
+    'blanks: for _number in 0..count {
+        text.push_str(" ")?;
+    }
+    Ok(())
+}
+
+/// Adds words, with as many blanks as make both so wide, and one more.
+#[tactic(auto, unfolding(crate::specs::Texts::padded))]
+fn push_padded(text: &mut String, words: &str, width: usize) -> Result<(), AllocError>
+    ensures { OnOk result (string_bytes text.new ≡ string_bytes text.old ++ padded width words.now) }
+{
+    text.push_str(words)?;
+    push_blanks(text, width.saturating_sub(words.len()))?;
+    text.push_str(" ")
+}
+
+/// Adds the line of the statement of an instruction, and the statement, in columns.
+#[tactic(auto, unfolding(crate::specs::Texts::place_columns))]
+fn push_place(
+    text: &mut String,
+    alloc: Global,
+    facts: &Facts<'_>,
+    pc: u16,
+) -> Result<(), AllocError>
+    ensures { OnOk result (string_bytes text.new ≡ string_bytes text.old ++ place_columns facts.now pc) }
+{
+    let line = line_at(facts, pc);
+    let line = format!(in alloc; "{line}")?;
+    let statement = statement_at(alloc, facts, pc)?;
+    text.push_str("      line ")?;
+    push_padded(text, line.as_str(), 4)?;
+    push_padded(text, statement.as_str(), 22)
+}
+
+/// Adds the line of a step by the instruction at a pc: where its statement stands, the statement, and what it says.
+fn push_way(
+    text: &mut String,
+    alloc: Global,
+    facts: &Facts<'_>,
+    pc: u16,
+    told: ToldStep,
+) -> Result<(), AllocError>
+    ensures { OnOk result (string_bytes text.new ≡ string_bytes text.old ++ way_line facts.now pc told) }
+{
+    let words = way_words(alloc, facts, pc, told)?;
+    push_place(text, alloc, facts, pc)?;
+    text.push_str(words.as_str())?;
+    text.push_str("\n")
+}
+
+/// Adds the line of a step that joins what the cells of two members hold.
+fn push_merge(
+    text: &mut String,
+    alloc: Global,
+    facts: &Facts<'_>,
+    told: ToldStep,
+) -> Result<(), AllocError>
+    ensures { OnOk result (string_bytes text.new ≡ string_bytes text.old ++ merge_line facts.now told) }
+{
+    let words = merge_words(alloc, facts, told)?;
+    write!(text, "      {words}\n")
+}
+
+/// Adds the line of a step.
+fn push_step(
+    text: &mut String,
+    alloc: Global,
+    facts: &Facts<'_>,
+    told: ToldStep,
+) -> Result<(), AllocError>
+    ensures { OnOk result (string_bytes text.new ≡ string_bytes text.old ++ step_line facts.now told) }
+{
+    match told.step.cause {
+        Cause::Instruction(pc) => push_way(text, alloc, facts, pc, told),
+        Cause::SameClass => push_merge(text, alloc, facts, told),
+    }
+}
+
+/// Adds the lines of a chain.
+fn push_chain(
+    text: &mut String,
+    alloc: Global,
+    facts: &Facts<'_>,
+    chain: &[ToldStep],
+) -> Result<(), AllocError>
+    ensures { OnOk result (string_bytes text.new ≡ string_bytes text.old ++ flat_map (step_line facts.now) chain.now) }
+{
+    for told in chain {
+        push_step(text, alloc, facts, *told)?;
+    }
+    Ok(())
+}
+
+/// Whether a step passes an argument to a parameter.
+fn is_passed(facts: &Facts<'_>, told: &ToldStep) -> bool
+    ensures { result ≡ is_passed facts.now told.now }
+{
+    match told.step.cause {
+        Cause::Instruction(pc) => kind_of(facts, pc, &told.step) == Kind::Passed,
+        Cause::SameClass => false,
+    }
+}
+
+/// Whether a step of a chain passes an argument to a parameter.
+fn goes_through_parameters(facts: &Facts<'_>, chain: &[ToldStep]) -> bool
+    ensures { result ≡ goes_through_parameters facts.now chain.now }
+{
+    for told in chain {
+        if is_passed(facts, told) {
+            return true;
+        }
+    }
+    false
+}
+
+/// Adds that a chain goes through parameters, if it does.
+fn push_parameters(
+    text: &mut String,
+    facts: &Facts<'_>,
+    chain: &[ToldStep],
+) -> Result<(), AllocError>
+    ensures { OnOk result (string_bytes text.new ≡ string_bytes text.old ++ parameters_line facts.now chain.now) }
+{
+    if goes_through_parameters(facts, chain) {
+        text.push_str("    through parameters, which all calls of a function share\n")
+    } else {
+        Ok(())
+    }
+}
+
+/// Adds the line of an instruction without which two members would be two, if one was found.
+fn push_without(
+    text: &mut String,
+    facts: &Facts<'_>,
+    without: Option<u16>,
+) -> Result<(), AllocError>
+    ensures { OnOk result (string_bytes text.new ≡ string_bytes text.old ++ without_line facts.now without) }
+{
+    match without {
+        Some(pc) => {
+            let line = line_at(facts, pc);
+            write!(text, "    without line {line} they would be two\n")
+        }
+        None => Ok(()),
+    }
+}
+
+/// Adds the line before a chain.
+fn push_head(
+    text: &mut String,
+    alloc: Global,
+    facts: &Facts<'_>,
+    pair: &ToldPair,
+) -> Result<(), AllocError>
+    ensures { OnOk result (string_bytes text.new ≡ string_bytes text.old ++ head_line facts.now pair.now) }
+{
+    let first = member_words(alloc, facts, pair.first)?;
+    let second = member_words(alloc, facts, pair.second)?;
+    write!(text, "  {first} and {second} are one class, since\n")
+}
+
+/// Adds why two members share a class.
+fn push_pair(
+    text: &mut String,
+    alloc: Global,
+    facts: &Facts<'_>,
+    pair: &ToldPair,
+) -> Result<(), AllocError>
+    ensures { OnOk result (string_bytes text.new ≡ string_bytes text.old ++ pair_lines facts.now pair.now) }
+{
+    push_head(text, alloc, facts, pair)?;
+    push_chain(text, alloc, facts, &pair.chain)?;
+    push_parameters(text, facts, &pair.chain)?;
+    push_without(text, facts, pair.without)
+}
+
+/// Adds why the members of each of these pairs share a class.
+pub(crate) fn push_pairs(
+    text: &mut String,
+    alloc: Global,
+    facts: &Facts<'_>,
+    pairs: &[ToldPair],
+) -> Result<(), AllocError>
+    ensures { OnOk result (string_bytes text.new ≡ string_bytes text.old ++ flat_map (pair_lines facts.now) pairs.now) }
+{
+    for pair in pairs {
+        push_pair(text, alloc, facts, pair)?;
+    }
+    Ok(())
+}
