@@ -25,9 +25,11 @@ at_or_above source k n above here small (inl same) = subst (λ m. (region : Regi
 at_or_above source k n above here small (inr more) = above n more small
 
 -- so it is with one operation less
+pub one_fewer : (source : List ℕ) (k j : ℕ) → k ≤ j + 1 → AreTooLong source k → (region : Region) × HasRefusedTree source k (infer.TooManyLocks region) → AreTooLong source j
+one_fewer source k j below above here = λ n more small. at_or_above source k n above here small (eq-or-lt_of_le (omega (arith, more, below)))
+
 pub one_less : (source : List ℕ) (k j : ℕ) (fault : ExplainFault) → k ≤ j + 1 → AreTooLong source k → IsTooMany fault → IsRefusedExplanation source k fault → AreTooLong source j
-one_less source k j fault below above t r =
-    λ n more small. at_or_above source k n above (too_many source k fault t r) small (eq-or-lt_of_le (omega (arith, more, below)))
+one_less source k j fault below above t r = one_fewer source k j below above (too_many source k fault t r)
 
 -- none are longer than eight
 pub none_longer : (source : List ℕ) (k : ℕ) → 8 ≤ k → AreTooLong source k

@@ -1,5 +1,5 @@
 -- What the document of the lists of a source tells: what its map, its classes and the explanation of its lists tell.
-use Rattle.std.specs.Prelude.{◌≡◌, ◌++◌, ℕ, List, [], ◌∷◌, map, Option}
+use Rattle.std.specs.Prelude.{◌≡◌, ◌++◌, ℕ, List, [], ◌∷◌, Option}
 use Rattle.asl_syntax.specs.Tree.{Item}
 use Rattle.asl_syntax.specs.Parsed.{Parses}
 use Rattle.asl_lower.specs.Lowered.{IsLowering}
@@ -14,7 +14,7 @@ use Rattle.asl_lists.specs.declared.fault.ListsFault.{ListsFault}
 use Rattle.asl_lists.specs.declared.fault.ListsFault.TheVariants.{Refused, OutOfMemory}
 use Rattle.asl_lists.specs.Places.{lines_from}
 use Rattle.asl_lists.specs.Document.{document_text}
-use Rattle.asl_lists.specs.Driver.{driver}
+use Rattle.asl_lists.specs.Driver.{AreEntries, driver}
 use Rattle.asl_lists.specs.Lengths.{IsLength, IsRefusedAt}
 
 -- the lines, the map, the code and the classes of the source
@@ -37,10 +37,6 @@ pub record IsDocument (source : List ℕ) (k_limit : ℕ) (added text : List ℕ
 -- so with paths of the length that is asked for
 abbrev pub IsToldFor : List ℕ → Option ℕ → List ℕ → List ℕ → Type 0
 IsToldFor source k added text = (n : ℕ) × IsLength source k n × IsDocument source n added text
-
--- the entries of these names, with some numbers of parameters: a source is refused where a function has another number
-abbrev pub AreEntries : List (List ℕ) → List Entry → Type 0
-AreEntries names entries = map (λ (e : Entry). e.name.now) entries ≡ names
 
 -- the document of the source with what calls its entries
 abbrev pub HasEntries : List ℕ → Option ℕ → List (List ℕ) → List ℕ → Type 0

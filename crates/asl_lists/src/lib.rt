@@ -16,11 +16,13 @@ mod place_values;
 mod section_values;
 mod values;
 mod warning_values;
+mod whole;
 
 pub use driver::Entry;
 pub use facts::Facts;
 pub use fault::ListsFault;
 pub use listed_source::listed;
+pub use whole::{Whole, with_entries};
 
 #[cfg(test)]
 mod tests {

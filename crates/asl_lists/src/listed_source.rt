@@ -1,14 +1,14 @@
 //! From a source to the document of its lists.
-ghost use Rattle.std.specs.Prelude.{◌≡◌, ◌≤◌, ◌++◌, map, IfOk, IfErr, IfSome, string_bytes};
+ghost use Rattle.std.specs.Prelude.{◌≤◌, map, IfOk, IfErr, IfSome, string_bytes};
 ghost use Rattle.asl_explain.specs.Explained.{IsExplanation};
 ghost use Rattle.asl_lists.specs.Listed.{AreFacts, HasEntries, HasRefusedEntries, IsDocument, IsListed, IsRefusedLists, IsRefusedWhole, IsToldFor};
 
 use crate::document::document_text;
-use crate::driver::{driver, entries_of};
 use crate::facts::Facts;
 use crate::fault::ListsFault;
 use crate::greatest::{Found, explained_at};
 use crate::line_table::line_table;
+use crate::whole::with_entries;
 use asl_lower::lower;
 use asl_map::map_of;
 use asl_points_to::classes;
@@ -103,18 +103,6 @@ fn listed_entries(
     ensures told { IfOk result (λ text. HasEntries source.now k (map string_bytes names.now) (string_bytes text)) }
     ensures refused { IfErr result (HasRefusedEntries source.now k (map string_bytes names.now)) }
 {
-    let entries = entries_of(alloc, source, names)?;
-    let driver = driver(alloc, &entries)?;
-    let whole = joined(alloc, source, driver.as_str())?;
-    listed_whole(alloc, &whole, k, driver.as_str())
-}
-
-/// The source, with what calls its entries behind it.
-fn joined(alloc: Global, source: &[u8], driver: &str) -> Result<Vec<u8>, AllocError>
-    ensures { IfOk result (λ whole. whole.items ≡ source.now ++ driver.now) }
-{
-    let mut whole = Vec::with_capacity(alloc, source.len())?;
-    whole.extend_from_slice(source)?;
-    whole.extend_from_slice(driver.as_bytes())?;
-    Ok(whole)
+    let whole = with_entries(alloc, source, names)?;
+    listed_whole(alloc, &whole.text, k, whole.driver.as_str())
 }
