@@ -258,6 +258,9 @@ static inline void aslr_leave(aslr_thread *t) {
   else t->depth--;
 }
 
+/* With ASLR_NO_MAIN a printed text has no `main`, and this is its program: for C that opens a runtime itself, and calls the entries. */
+extern const aslr_program *const aslr_printed;
+
 /* `main` of an emitted program. usage: PROGRAM [--engine forest|words] [--counts] [--share-numbers] [THREADS]
  * THREADS, 1 to 10,000, is how many threads run its entry, each with its number, from 0; left out, as many as there are processors. It prints
  * `T out V`, `T done V` and `T fault F`, then `global G V` for each global. Returns 0 where all threads are done, 1 where memory or the start

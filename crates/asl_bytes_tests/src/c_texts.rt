@@ -90,11 +90,16 @@ L13: aslr_out(t, r0);\n\
 L14: return r0;\n\
 }\n\
 \n\
+#ifdef ASLR_NO_MAIN\n\
+const aslr_program *const aslr_printed = &aslr_this;\n\
+#else\n\
 int main(int argc, char **argv) {\n\
 \x20 return aslr_main(&aslr_this, argc, argv);\n\
-}\n";
+}\n\
+#endif\n";
 
-/// With checks, a C function in place of function 1, and names: one of a function, and one that would end a comment.
+/// With checks, a C function in place of function 1, a name by which C calls function 0, which the first of two is, and names: of functions
+/// and of locals, some of which would end a comment.
 static CHECKED: &[u8] = b"/* Printed by `asl c`: a program over asl_runtime.h. */\n\
 #define ASLR_EMITTED\n\
 #define ASLR_CHECKS\n\
@@ -120,16 +125,16 @@ static const aslr_lock *const aslr_lists[] = {\n\
 \x20 aslr_list1,\n\
 \x20 NULL};\n\
 \n\
-static aslr_value aslr_f0(aslr_thread *t, aslr_value r0);\n\
+aslr_value begun(aslr_thread *t, aslr_value r0);\n\
 aslr_value shown(aslr_thread *t, aslr_value r0);\n\
 \n\
-static const aslr_program aslr_this = {2, 2, aslr_classes, aslr_lists, aslr_f0};\n\
+static const aslr_program aslr_this = {2, 2, aslr_classes, aslr_lists, begun};\n\
 \n\
-static aslr_value aslr_f0(aslr_thread *t, aslr_value r0) { /* first_1 */\n\
+aslr_value begun(aslr_thread *t, aslr_value r0) { /* first_1 */\n\
 \x20 (void)t;\n\
-\x20 (void)r0;\n\
+\x20 (void)r0; /* who */\n\
 \x20 aslr_value r1 = 0; (void)r1;\n\
-\x20 aslr_value r2 = 0; (void)r2;\n\
+\x20 aslr_value r2 = 0; (void)r2; /* x_1 */\n\
 L0: r1 = aslr_glob(t, 1);\n\
 L1: { aslr_enter(t, 0, (const aslr_value[]){r0, r1, r2, 0}); }\n\
 L2: r2 = aslr_load(t, r1);\n\
@@ -145,24 +150,58 @@ L11: aslr_leave(t);\n\
 L12: return r2;\n\
 }\n\
 \n\
+#ifdef ASLR_NO_MAIN\n\
+const aslr_program *const aslr_printed = &aslr_this;\n\
+#else\n\
 int main(int argc, char **argv) {\n\
 \x20 return aslr_main(&aslr_this, argc, argv);\n\
-}\n";
+}\n\
+#endif\n";
+
+/// Functions with their names in C.
+fn externs(alloc: Global, named: &[(u16, &str)]) -> Result<Vec<Extern>, AllocError> {
+    let mut externs = Vec::new(alloc);
+    for (function, name) in named {
+        let name = String::from_str(alloc, name)?;
+        externs.push(Extern {
+            function: *function,
+            name,
+        })?;
+    }
+    Ok(externs)
+}
+
+/// These texts.
+fn words(alloc: Global, texts: &[&str]) -> Result<Vec<String>, AllocError> {
+    let mut words = Vec::new(alloc);
+    for text in texts {
+        words.push(String::from_str(alloc, text)?)?;
+    }
+    Ok(words)
+}
 
 /// All options, or none.
 fn options(alloc: Global, all: bool) -> Result<Options, AllocError> {
-    let mut externs = Vec::new(alloc);
-    let mut names = Vec::new(alloc);
-    if all {
-        let name = String::from_str(alloc, "shown")?;
-        externs.push(Extern { function: 1, name })?;
-        names.push(String::from_str(alloc, "first_1")?)?;
-        names.push(String::from_str(alloc, "*/")?)?;
-    }
+    let (externs, entries, names, locals) = match all {
+        true => (
+            externs(alloc, &[(1, "shown")])?,
+            externs(alloc, &[(1, "taken"), (0, "begun"), (0, "again")])?,
+            words(alloc, &["first_1", "*/"])?,
+            vec![in alloc; words(alloc, &["who", "*/", "x_1", "more"])?]?,
+        ),
+        false => (
+            Vec::new(alloc),
+            Vec::new(alloc),
+            Vec::new(alloc),
+            Vec::new(alloc),
+        ),
+    };
     Ok(Options {
         checks: all,
         externs,
+        entries,
         names,
+        locals,
     })
 }
 

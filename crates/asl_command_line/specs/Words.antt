@@ -105,8 +105,8 @@ IsCommand name rows (command.Lists k_limit entries) =
     (name ≡ codes "lists") × IsLimitAt rows k_limit × AreEntriesAt rows (map string_bytes entries.items)
 IsCommand name rows (command.Diagnose assembly k_limit) =
     (name ≡ codes "diagnose") × IsFlagAt (codes "asm") rows assembly × IsLengthAt rows k_limit
-IsCommand name rows (command.PrintC k_limit checks) =
-    (name ≡ codes "c") × IsLengthAt rows k_limit × IsFlagAt (codes "check") rows checks
+IsCommand name rows (command.PrintC k_limit checks entries) =
+    (name ≡ codes "c") × IsLimitAt rows k_limit × IsFlagAt (codes "check") rows checks × AreEntriesAt rows (map string_bytes entries.items)
 IsCommand name rows command.Replay = name ≡ codes "replay"
 IsCommand name rows (command.Log trace) = (name ≡ codes "log") × IsFlagAt (codes "trace") rows trace
 IsCommand name rows (command.Debug words) = (name ≡ codes "debug") × AreDebugWords (words_at (codes "words") rows) words.items
@@ -175,12 +175,12 @@ AskNothing rows = (words : List DebugWord) → AreDebugWords (words_at (codes "w
 abbrev pub IsMisused : Text → List Row → Text → Type 0
 IsMisused name rows text =
     ((name ≡ codes "step") × (TellsNoNumber (codes "threads") (codes "--threads <N>") rows text ⊎ TellsNoSchedule rows text))
-    ⊎ ((((name ≡ codes "compile") ⊎ ((name ≡ codes "check") ⊎ ((name ≡ codes "explain") ⊎ ((name ≡ codes "diagnose") ⊎ (name ≡ codes "c"))))) × TellsNoLength rows text)
+    ⊎ ((((name ≡ codes "compile") ⊎ ((name ≡ codes "check") ⊎ ((name ≡ codes "explain") ⊎ (name ≡ codes "diagnose")))) × TellsNoLength rows text)
     ⊎ (((name ≡ codes "run") × (TellsNoNumber (codes "threads") (codes "--threads <N>") rows text
     ⊎ (TellsNoNumber (codes "workers") (codes "--workers <W>") rows text ⊎ TellsNoNumber (codes "limit") (codes "--limit <L>") rows text)))
     ⊎ (((name ≡ codes "debug") × AskNothing rows × TellsNoWord (words_at (codes "words") rows) text)
     ⊎ ((IsUnknown name × (text ≡ usage_text (codes "the command is unknown")))
-    ⊎ ((name ≡ codes "lists") × (TellsNoLimit rows text ⊎ TellsNoEntry rows text))))))
+    ⊎ (((name ≡ codes "lists") ⊎ (name ≡ codes "c")) × (TellsNoLimit rows text ⊎ TellsNoEntry rows text))))))
 
 -- what the command of this name with these values asks for
 abbrev pub IsReading : Text → List Row → Invocation → Type 0

@@ -94,7 +94,8 @@ fn c_command<'a>(alloc: Global) -> Result<Command<'a>, AllocError>
 {
     let command = named(alloc, "c", "asl c")?;
     let command = with_argument(command, value(alloc, "k", "K"))?;
-    with_argument(command, flag(alloc, "check"))
+    let command = with_argument(command, flag(alloc, "check"))?;
+    with_argument(command, values(alloc, "entry", "F"))
 }
 
 fn asm_command<'a>(alloc: Global) -> Result<Command<'a>, AllocError>

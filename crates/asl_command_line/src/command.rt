@@ -55,10 +55,12 @@ pub enum Command {
     },
     /// `c`: the C program of the program that is inferred for the input, which is a source.
     PrintC {
-        /// How many operations a path of an inferred lock has at most.
-        k_limit: PathLimit,
+        /// How many operations a path of an inferred lock has at most; none: as many as they may be.
+        k_limit: Option<PathLimit>,
         /// Whether the runtime looks at each access.
         checks: bool,
+        /// The functions that are called from outside, where the source has no `main`.
+        entries: Vec<String>,
     },
     /// `replay`: whether the input, a run file, is a run of its program.
     Replay,

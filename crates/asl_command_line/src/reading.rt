@@ -207,12 +207,33 @@ fn read_diagnose(alloc: Global, values: &ArgMatches<'_>) -> Result<Invocation, A
 fn read_c(alloc: Global, values: &ArgMatches<'_>) -> Result<Invocation, AllocError>
     ensures { IfOk result (IsReading (codes "c") (rows_of (found_of values.now))) }
 {
-    match k_limit_at(values) {
-        Ok(k_limit) => {
+    let k_limit = match some_k_limit_at(values) {
+        Ok(k_limit) => k_limit,
+        Err(word) => return invalid(alloc, word, "--k <K>", A_PATH_LIMIT_OR_AUTO),
+    };
+    read_c_entries(alloc, values, k_limit)
+}
+
+/// What `c` is asked for, with paths of this length.
+fn read_c_entries(
+    alloc: Global,
+    values: &ArgMatches<'_>,
+    k_limit: Option<PathLimit>,
+) -> Result<Invocation, AllocError>
+    requires { IsLimitAt (rows_of (found_of values.now)) k_limit }
+    ensures { IfOk result (IsReading (codes "c") (rows_of (found_of values.now))) }
+{
+    match entries_at(alloc, values) {
+        Ok(entries) => {
             let checks = flag_at(values, "check");
-            Ok(Invocation::Alone(Command::PrintC { k_limit, checks }))
+            Ok(Invocation::Alone(Command::PrintC {
+                k_limit,
+                checks,
+                entries,
+            }))
         }
-        Err(word) => invalid(alloc, word, "--k <K>", A_PATH_LIMIT),
+        Err(EntriesFault::NoName(word)) => no_entry(alloc, word),
+        Err(EntriesFault::OutOfMemory) => Err(AllocError),
     }
 }
 

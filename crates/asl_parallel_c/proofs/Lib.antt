@@ -3,3 +3,4 @@ pub mod Externs
 pub mod Rows
 pub mod Bodies
 pub mod Templates
+pub mod Locals

@@ -27,9 +27,11 @@ this_text image options =
 abbrev pub data_text : Image → List ℕ
 data_text image = classes_text image.globals ++ (lists_from 0 image.lists ++ table_text (length image.lists))
 
--- the end of the text
+-- the end of the text: `main`, or, where C brings its own, the program's name
 abbrev pub main_text : List ℕ
-main_text = codes "int main(int argc, char **argv) {\n  return aslr_main(&aslr_this, argc, argv);\n}\n"
+main_text =
+    codes "#ifdef ASLR_NO_MAIN\nconst aslr_program *const aslr_printed = &aslr_this;\n#else\n"
+    ++ codes "int main(int argc, char **argv) {\n  return aslr_main(&aslr_this, argc, argv);\n}\n#endif\n"
 
 -- the whole text
 abbrev pub c_text : Image → Options → List ℕ

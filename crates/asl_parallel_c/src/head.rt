@@ -1,10 +1,10 @@
 //! The heads of functions, and their prototypes.
-ghost use Rattle.std.specs.Prelude.{◌≡◌, ◌≤◌, ◌++◌, length, codes, OnErr, OnOk};
-ghost use Rattle.asl_parallel_c.specs.Functions.{declared, head_text, params_text, prototype_text, prototypes_from, registers_text};
+ghost use Rattle.std.specs.Prelude.{◌≡◌, ◌≤◌, ◌+◌, ◌<◌, ◌^◌, ◌++◌, length, codes, OnErr, OnOk};
+ghost use Rattle.asl_parallel_c.specs.Functions.{declared, head_text, local_text, locals_from, params_text, prototype_text, prototypes_from, registers_text};
 ghost use Rattle.asl_parallel_c.specs.Names.{name_of};
 
 use crate::growth::Growth;
-use crate::names::{extern_name, put_comment};
+use crate::names::{own_name, put_comment, put_local_comment};
 use crate::options::Options;
 use crate::template::{fill, repeat};
 use asl_code::Function;
@@ -38,7 +38,7 @@ fn put_declared<G: Growth>(
     ensures written { OnOk result (text.new.items ≡ text.old.items ++ declared (name_of options.now number) number) }
     ensures growth { OnErr result (G.refused growth) }
 {
-    match extern_name(options.externs.as_slice(), number) {
+    match own_name(options, number) {
         Some(name) => put_external(growth, text, name.as_bytes()),
         None => fill(
             growth,
@@ -82,24 +82,66 @@ pub(crate) fn put_prototypes<G: Growth>(
     Ok(())
 }
 
-/// Adds the registers of a function.
+/// Adds the line of a local.
+fn put_local<G: Growth>(
+    growth: G,
+    text: &mut Vec<u8>,
+    options: &Options,
+    number: u16,
+    template: &[u8],
+    register: u32,
+) -> Result<(), AllocError>
+    ensures written { OnOk result (text.new.items ≡ text.old.items ++ local_text options.now number template.now register) }
+    ensures growth { OnErr result (G.refused growth) }
+{
+    fill(growth, text, template, &[register, register])?;
+    put_local_comment(growth, text, options, number, register)?;
+    growth.append(text, b"\n")
+}
+
+/// Adds the lines of so many locals, from the first on.
+fn put_locals<G: Growth>(
+    growth: G,
+    text: &mut Vec<u8>,
+    options: &Options,
+    number: u16,
+    template: &[u8],
+    first: u32,
+    count: u32,
+) -> Result<(), AllocError>
+    requires { first + count < 2 ^ 32 }
+    ensures written { OnOk result (text.new.items ≡ text.old.items ++ locals_from options.now number template.now first count) }
+    ensures growth { OnErr result (G.refused growth) }
+{
+    for register in first..first + count {
+        put_local(growth, text, options, number, template, register)?;
+    }
+    Ok(())
+}
+
+/// Adds the registers of the function of this number.
 fn put_registers<G: Growth>(
     growth: G,
     text: &mut Vec<u8>,
-    params: u8,
-    regs: u8,
+    options: &Options,
+    number: u16,
+    function: &Function,
 ) -> Result<(), AllocError>
-    ensures written { OnOk result (text.new.items ≡ text.old.items ++ registers_text params regs) }
+    ensures written { OnOk result (text.new.items ≡ text.old.items ++ registers_text options.now number function.now) }
     ensures growth { OnErr result (G.refused growth) }
 {
+    let params = u32::from(function.params);
+    let regs = u32::from(function.regs);
     let others = regs.saturating_sub(params);
-    repeat(growth, text, b"  (void)r@;\n", 0, u32::from(params))?;
-    repeat(
+    put_locals(growth, text, options, number, b"  (void)r@;", 0, params)?;
+    put_locals(
         growth,
         text,
-        b"  aslr_value r@ = 0; (void)r@;\n",
-        u32::from(params),
-        u32::from(others),
+        options,
+        number,
+        b"  aslr_value r@ = 0; (void)r@;",
+        params,
+        others,
     )
 }
 
@@ -114,15 +156,10 @@ pub(crate) fn put_head<G: Growth>(
     ensures written { OnOk result (text.new.items ≡ text.old.items ++ head_text options.now number function.now) }
     ensures growth { OnErr result (G.refused growth) }
 {
-    fill(
-        growth,
-        text,
-        b"static aslr_value aslr_f@(aslr_thread *t",
-        &[u32::from(number)],
-    )?;
+    put_declared(growth, text, options, number)?;
     put_params(growth, text, function.params)?;
     growth.append(text, b") {")?;
     put_comment(growth, text, options, number)?;
     growth.append(text, b"\n  (void)t;\n")?;
-    put_registers(growth, text, function.params, function.regs)
+    put_registers(growth, text, options, number, function)
 }

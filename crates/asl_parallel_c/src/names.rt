@@ -1,7 +1,7 @@
 //! Names in the text.
 ghost use Rattle.std.specs.Prelude.{◌≡◌, ◌++◌, None, Some, IsTrue, MatchOption, OnErr, OnOk};
 ghost use Rattle.std.specs.List.{list_all};
-ghost use Rattle.asl_parallel_c.specs.Names.{callee, comment, comment_of, is_word_byte, name_in};
+ghost use Rattle.asl_parallel_c.specs.Names.{callee, comment, comment_at, comment_of, is_word_byte, local_comment, name_in, name_of};
 
 use crate::growth::Growth;
 use crate::options::{Extern, Options};
@@ -20,6 +20,16 @@ pub(crate) fn extern_name(externs: &[Extern], function: u16) -> Option<&str>
     None
 }
 
+/// The name of its own that the function has in C: that of the C function in its place, or by which C calls it.
+pub(crate) fn own_name(options: &Options, function: u16) -> Option<&str>
+    ensures { MatchOption result (name_of options.now function ≡ None) (λ name. name_of options.now function ≡ Some name.now) }
+{
+    match extern_name(options.externs.as_slice(), function) {
+        Some(name) => Some(name),
+        None => extern_name(options.entries.as_slice(), function),
+    }
+}
+
 /// Adds the C name of a function.
 pub(crate) fn put_callee<G: Growth>(
     growth: G,
@@ -30,7 +40,7 @@ pub(crate) fn put_callee<G: Growth>(
     ensures written { OnOk result (text.new.items ≡ text.old.items ++ callee options.now function) }
     ensures growth { OnErr result (G.refused growth) }
 {
-    match extern_name(options.externs.as_slice(), function) {
+    match own_name(options, function) {
         Some(name) => growth.append(text, name.as_bytes()),
         None => fill(growth, text, b"aslr_f@", &[u32::from(function)]),
     }
@@ -60,7 +70,37 @@ pub(crate) fn put_comment<G: Growth>(
     ensures written { OnOk result (text.new.items ≡ text.old.items ++ comment options.now function) }
     ensures growth { OnErr result (G.refused growth) }
 {
-    match options.names.get(usize::from(function)) {
+    put_comment_at(growth, text, options.names.as_slice(), u32::from(function))
+}
+
+/// Adds the comment of a local's name, where it is known.
+pub(crate) fn put_local_comment<G: Growth>(
+    growth: G,
+    text: &mut Vec<u8>,
+    options: &Options,
+    function: u16,
+    register: u32,
+) -> Result<(), AllocError>
+    ensures written { OnOk result (text.new.items ≡ text.old.items ++ local_comment options.now function register) }
+    ensures growth { OnErr result (G.refused growth) }
+{
+    match options.locals.get(usize::from(function)) {
+        Some(names) => put_comment_at(growth, text, names.as_slice(), register),
+        None => Ok(()),
+    }
+}
+
+/// Adds the comment of the name of this number, where there is one.
+fn put_comment_at<G: Growth>(
+    growth: G,
+    text: &mut Vec<u8>,
+    names: &[String],
+    number: u32,
+) -> Result<(), AllocError>
+    ensures written { OnOk result (text.new.items ≡ text.old.items ++ comment_at names.now number) }
+    ensures growth { OnErr result (G.refused growth) }
+{
+    match names.get(number as usize) {
         Some(name) => put_name(growth, text, name.as_bytes()),
         None => Ok(()),
     }

@@ -1,11 +1,11 @@
 //! What a text is to be like, besides its program.
 
-/// A C function that is called in place of one of the program.
+/// A function of the program that has a name of its own in C.
 #[derive(Drop)]
 pub struct Extern {
     /// The number of the program's function.
     pub function: u16,
-    /// The name of the C function.
+    /// Its name in C.
     pub name: String,
 }
 
@@ -14,8 +14,12 @@ pub struct Extern {
 pub struct Options {
     /// Whether the runtime is asked at each access whether it is covered or fresh.
     pub checks: bool,
-    /// The C functions that are called in place of functions of the program.
+    /// The functions in whose place C functions are called, with the names of these.
     pub externs: Vec<Extern>,
+    /// The functions that C may call, with the names by which it does.
+    pub entries: Vec<Extern>,
     /// The names of the functions in the source, by number, as far as they are known.
     pub names: Vec<String>,
+    /// The names of the locals of each function, in the order of their registers, as far as they are known.
+    pub locals: Vec<Vec<String>>,
 }

@@ -1,6 +1,6 @@
 //! The C program of a program.
 ghost use Rattle.std.specs.Prelude.{◌≡◌, ◌++◌, OnErr, OnOk};
-ghost use Rattle.asl_parallel_c.specs.Text.{c_text, checks_text, data_text, front_text, this_text};
+ghost use Rattle.asl_parallel_c.specs.Text.{c_text, checks_text, data_text, front_text, main_text, this_text};
 
 use crate::functions::put_functions;
 use crate::growth::Growth;
@@ -40,9 +40,21 @@ pub fn put_program<G: Growth>(
         program.functions(),
         program.code(),
     )?;
+    put_main(growth, text)
+}
+
+/// Adds the end of the text: `main`, or, where C brings its own, the program's name.
+fn put_main<G: Growth>(growth: G, text: &mut Vec<u8>) -> Result<(), AllocError>
+    ensures written { OnOk result (text.new.items ≡ text.old.items ++ main_text) }
+    ensures growth { OnErr result (G.refused growth) }
+{
     growth.append(
         text,
-        b"int main(int argc, char **argv) {\n  return aslr_main(&aslr_this, argc, argv);\n}\n",
+        b"#ifdef ASLR_NO_MAIN\nconst aslr_program *const aslr_printed = &aslr_this;\n#else\n",
+    )?;
+    growth.append(
+        text,
+        b"int main(int argc, char **argv) {\n  return aslr_main(&aslr_this, argc, argv);\n}\n#endif\n",
     )
 }
 

@@ -16,3 +16,5 @@ mod Outcomes
 pub mod Weaker
 mod Telling
 mod OverMemory
+mod Printing
+mod Found

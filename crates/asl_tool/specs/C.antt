@@ -1,20 +1,96 @@
--- What the command `c` answers (docs/EMBEDDING.md).
-use Rattle.std.specs.Prelude.{◌≡◌, ℕ, Bool, List, []}
+-- What the command `c` answers (docs/PARALLEL.md).
+use Rattle.std.specs.declared.alloc.Global.{Global}
+use Rattle.std.specs.Prelude.{◌≡◌, ◌⊎◌, ◌++◌, ℕ, Bool, List, [], ◌∷◌, Option, None, Some, String, Vec, codes, encode_utf8_all, map as each, string_bytes}
 use Rattle.asl_code.specs.declared.image.Image.{Image}
+use Rattle.asl_emitter.specs.declared.fault.InferFault.TheVariants as infer
+use Rattle.asl_lists.specs.declared.driver.Entry.{Entry}
+use Rattle.asl_lists.specs.Driver.{AreEntries, driver}
+use Rattle.asl_lists.specs.Lengths.{IsLength}
+use Rattle.asl_map.specs.declared.map.Map.{Map}
+use Rattle.asl_map.specs.declared.text_piece.Named.{Named}
+use Rattle.asl_map.specs.Mapped.{IsMapped}
+use Rattle.asl_map.specs.Names.{function_name}
+use Rattle.asl_parallel_c.specs.declared.options.Extern.{Extern}
 use Rattle.asl_parallel_c.specs.declared.options.Options.{Options}
 use Rattle.asl_parallel_c.specs.Text.{c_text}
-use Rattle.asl_tool.specs.Compile.{IsProgramFor}
+use Rattle.asl_tool.specs.declared.command_fault.CommandFault.{CommandFault}
+use Rattle.asl_tool.specs.declared.command_fault.CommandFault.TheVariants as fault
+use Rattle.asl_tool.specs.Compile.{IsProgramFor, IsRefusedSource}
 
--- the text is the program's, in which no C function stands for one of its own
-pub record IsPrintedFor (checks : Bool) (image : Image) (text : List ℕ) : Type 0 where
+-- ---- names
+
+-- the name of a function as a text
+abbrev pub function_words : Named → List ℕ
+function_words f = encode_utf8_all f.name
+
+-- the name by which C calls the function of a name
+abbrev pub c_entry : List ℕ → List ℕ
+c_entry name = codes "aslr_entry_" ++ name
+
+-- the functions of these names, one by one, each with this name in C
+pub record AreFound (m : Map) (names c_names : List (List ℕ)) (es : List Extern) : Type 0 where
+  pub functions : each (λ (e : Extern). function_name m e.function) es ≡ each (λ name. Some name) names
+  pub in_c : each (λ (e : Extern). string_bytes e.name) es ≡ c_names
+
+-- the names of the locals of each function as texts
+abbrev pub AreLocals : List (Vec (List ℕ) Global) → List (Vec (String Global) Global) → Type 0
+AreLocals registers locals =
+    each (λ (names : Vec (String Global) Global). each string_bytes names.items) locals ≡ each (λ (names : Vec (List ℕ) Global). each encode_utf8_all names.items) registers
+
+-- the text has the names of the map, and C calls these functions; no C function stands for one of the program
+pub record AreOptions (m : Map) (checks : Bool) (entries : List (List ℕ)) (o : Options) : Type 0 where
+  pub checked : o.checks ≡ checks
+  pub own : o.externs.items ≡ []
+  pub called : AreFound m entries (each c_entry entries) o.entries.items
+  pub names : each string_bytes o.names.items ≡ each function_words m.functions.items
+  pub locals : AreLocals m.registers.items o.locals.items
+
+-- ---- the text
+
+-- the text is that of the source's program, with the names of the source
+pub record IsPrintedFor (source : List ℕ) (checks : Bool) (entries : List (List ℕ)) (image : Image) (text : List ℕ) : Type 0 where
+  pub is : Map
+  pub mapped : IsMapped source is
   pub options : Options
-  pub checked : options.checks ≡ checks
-  pub own : options.externs.items ≡ []
-  pub unnamed : options.names.items ≡ []
+  pub are_options : AreOptions is checks entries options
   pub written : text ≡ c_text image options
 
--- the output is the text of the program that is inferred for the source
-pub record IsPrinted (source : List ℕ) (k_limit : ℕ) (checks : Bool) (output : List ℕ) : Type 0 where
+-- the program is inferred for the source, with paths of the length that is asked for, or else of the greatest that is accepted
+abbrev pub IsProgramAt : List ℕ → Option ℕ → Image → Type 0
+IsProgramAt source k image = (n : ℕ) × IsLength source k n × IsProgramFor source n image
+
+-- the output is the text of the program that is inferred for a source with a `main`
+pub record IsPrintedWhole (source : List ℕ) (k : Option ℕ) (checks : Bool) (entries : List (List ℕ)) (output : List ℕ) : Type 0 where
   pub image : Image
-  pub program : IsProgramFor source k_limit image
-  pub written : IsPrintedFor checks image output
+  pub program : IsProgramAt source k image
+  pub written : IsPrintedFor source checks entries image output
+
+-- so of the source with what calls its entries
+abbrev pub IsPrintedEntries : List ℕ → Option ℕ → Bool → List (List ℕ) → List ℕ → Type 0
+IsPrintedEntries source k checks names output = (es : List Entry) × AreEntries names es × IsPrintedWhole (source ++ driver es) k checks names output
+
+-- the text of the source, where no entries are named
+abbrev pub IsPrinted : List ℕ → Option ℕ → Bool → List (List ℕ) → List ℕ → Type 0
+IsPrinted source k checks [] output = IsPrintedWhole source k checks [] output
+IsPrinted source k checks (name ∷ names) output = IsPrintedEntries source k checks (name ∷ names) output
+
+-- ---- refusals
+
+-- some region needs too many locks
+abbrev pub IsTooMany : CommandFault → Type 0
+IsTooMany (fault.Infer (infer.TooManyLocks region)) = Unit {0}
+IsTooMany f = ⊥
+
+-- what each refusal says of a source with a `main`: it is that of the length that is asked for; where none is, too many locks are needed
+-- even with no path
+abbrev pub IsRefusedWhole : List ℕ → Option ℕ → CommandFault → Type 0
+IsRefusedWhole source None f = (n : ℕ) × IsLength source None n × IsRefusedSource source n f × (IsTooMany f → n ≡ 0)
+IsRefusedWhole source (Some k) f = IsRefusedSource source k f
+
+-- so of the source with what calls its entries; of lack of memory for that nothing is said
+abbrev pub IsRefusedEntries : List ℕ → Option ℕ → List (List ℕ) → CommandFault → Type 0
+IsRefusedEntries source k names f = (f ≡ fault.OutOfMemory) ⊎ ((es : List Entry) × AreEntries names es × IsRefusedWhole (source ++ driver es) k f)
+
+abbrev pub IsRefusedPrinting : List ℕ → Option ℕ → List (List ℕ) → CommandFault → Type 0
+IsRefusedPrinting source k [] f = IsRefusedWhole source k f
+IsRefusedPrinting source k (name ∷ names) f = IsRefusedEntries source k (name ∷ names) f

@@ -22,7 +22,7 @@ use Rattle.asl_lists.specs.declared.fault.ListsFault.TheVariants as lists
 use Rattle.asl_journal.specs.RunFile.{IsFileFault}
 use Rattle.asl_map.specs.Mapped.{IsMapText}
 use Rattle.asl_map.specs.Mapped as map
-use Rattle.asl_tool.specs.C.{IsPrinted}
+use Rattle.asl_tool.specs.C.{IsPrinted, IsRefusedPrinting}
 use Rattle.asl_tool.specs.Check.{IsChecked, IsRefusedCheck}
 use Rattle.asl_tool.specs.Compile.{IsCompiled, IsRefusedSource}
 use Rattle.asl_tool.specs.Debug.{IsDebugged}
@@ -53,7 +53,7 @@ IsOutput command.Map input text = IsMapText input text
 IsOutput (command.Explain k_limit all) input text = IsText input k_limit text
 IsOutput (command.Lists k_limit entries) input text = IsListed input k_limit (each string_bytes entries.items) text
 IsOutput (command.Diagnose assembly k_limit) input text = IsTold input assembly k_limit text
-IsOutput (command.PrintC k_limit checks) input text = IsPrinted input k_limit checks text
+IsOutput (command.PrintC k_limit checks entries) input text = IsPrinted input k_limit checks (each string_bytes entries.items) text
 IsOutput command.Replay input text = IsReplayed input text
 IsOutput (command.Log trace) input text = IsLogged input trace text
 IsOutput (command.Debug words) input text = IsDebugged input words.items text
@@ -124,7 +124,7 @@ IsRefusedCommand command.Map input f = IsRefusedMap input f
 IsRefusedCommand (command.Explain k_limit all) input f = IsRefusedExplain input k_limit f
 IsRefusedCommand (command.Lists k_limit entries) input f = IsRefusedListing input k_limit (each string_bytes entries.items) f
 IsRefusedCommand (command.Diagnose assembly k_limit) input f = IsRefusedDiagnose f
-IsRefusedCommand (command.PrintC k_limit checks) input f = IsRefusedSource input k_limit f
+IsRefusedCommand (command.PrintC k_limit checks entries) input f = IsRefusedPrinting input k_limit (each string_bytes entries.items) f
 IsRefusedCommand command.Replay input f = IsRefusedReplay input f
 IsRefusedCommand (command.Log trace) input f = IsRefusedReplay input f
 IsRefusedCommand (command.Debug words) input f = IsRefusedReplay input f

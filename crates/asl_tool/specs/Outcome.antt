@@ -49,5 +49,5 @@ IsSettled command.Map = ⊥
 IsSettled (command.Explain k_limit all) = ⊥
 IsSettled (command.Lists k_limit entries) = ⊥
 IsSettled (command.Diagnose assembly k_limit) = ⊥
-IsSettled (command.PrintC k_limit checks) = ⊥
+IsSettled (command.PrintC k_limit checks entries) = ⊥
 IsSettled c = Unit {0}

@@ -4,12 +4,14 @@ ghost use Rattle.asl_tool.specs.Command.{IsOutput, IsRunFile, IsRefusedCommand};
 
 mod asm;
 mod c;
+mod c_names;
 mod check;
 mod compile;
 mod debug;
 mod diagnose;
 mod dis;
 mod explain;
+mod greatest;
 mod lists;
 mod log;
 mod map;
@@ -52,7 +54,11 @@ pub fn output_of(alloc: Global, command: &Command, input: &[u8]) -> Result<Vec<u
         Command::Diagnose { assembly, k_limit } => diagnose::diagnosed_input(
             alloc, *assembly, k_limit, input,
         ),
-        Command::PrintC { k_limit, checks } => c::printed(alloc, k_limit, *checks, input),
+        Command::PrintC {
+            k_limit,
+            checks,
+            entries,
+        } => c::printed(alloc, k_limit, *checks, entries.as_slice(), input),
         Command::Replay => replay::replayed(alloc, input),
         Command::Log { trace } => log::logged(alloc, *trace, input),
         Command::Debug { words } => debug::debugged(alloc, words.as_slice(), input),

@@ -18,7 +18,7 @@ enum Wanted {
     Explain(u32, bool),
     Lists(Option<u32>, usize),
     Diagnose(bool, u32),
-    PrintC(u32, bool),
+    PrintC(Option<u32>, bool, usize),
     Debug(&'static [DebugWord]),
     Assemble,
     Disassemble,
@@ -62,8 +62,12 @@ fn is_command(got: &Command, wanted: &Wanted) -> bool {
         Command::Lists { k_limit, entries } => {
             matches!(wanted, Wanted::Lists(k, count) if limit_of(k_limit) == *k && entries.len() == *count)
         }
-        Command::PrintC { k_limit, checks } => {
-            matches!(wanted, Wanted::PrintC(k, flag) if k_limit.operations() == *k && checks == flag)
+        Command::PrintC {
+            k_limit,
+            checks,
+            entries,
+        } => {
+            matches!(wanted, Wanted::PrintC(k, flag, count) if limit_of(k_limit) == *k && checks == flag && entries.len() == *count)
         }
         Command::Diagnose { assembly, k_limit } => {
             matches!(wanted, Wanted::Diagnose(is_assembly, k) if assembly == is_assembly && k_limit.operations() == *k)
@@ -307,7 +311,7 @@ fn compiling(rt: HostRuntime) {
     check(&rt, &COMPILATIONS);
 }
 
-static CHECKS: [Row; 28] = [
+static CHECKS: [Row; 30] = [
     ("check", Wanted::Check(3)),
     ("check --k 0", Wanted::Check(0)),
     ("check --k=8", Wanted::Check(8)),
@@ -331,9 +335,14 @@ static CHECKS: [Row; 28] = [
     ("lists --k Auto", Wanted::WrongUsage),
     ("lists --entry 1f", Wanted::WrongUsage),
     ("lists f", Wanted::WrongUsage),
-    ("c", Wanted::PrintC(3, false)),
-    ("c --check --k 0", Wanted::PrintC(0, true)),
+    ("c", Wanted::PrintC(Some(3), false, 0)),
+    ("c --check --k 0", Wanted::PrintC(Some(0), true, 0)),
+    (
+        "c --entry f --k auto --entry _g1",
+        Wanted::PrintC(None, false, 2),
+    ),
     ("c --k 9", Wanted::WrongUsage),
+    ("c --entry 1f", Wanted::WrongUsage),
     ("c --text", Wanted::WrongUsage),
     ("diagnose", Wanted::Diagnose(false, 3)),
     ("diagnose --asm --k 0", Wanted::Diagnose(true, 0)),

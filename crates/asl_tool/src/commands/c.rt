@@ -1,41 +1,112 @@
 //! The command `c`: from a source to the C program of the program that is inferred for it.
-ghost use Rattle.std.specs.Prelude.{IfOk, IfErr, OnOk};
-ghost use Rattle.asl_tool.specs.C.{IsPrinted, IsPrintedFor};
-ghost use Rattle.asl_tool.specs.Compile.{IsRefusedSource};
+ghost use Rattle.std.specs.Prelude.{◌≡◌, ◌≤◌, map, IfOk, IfErr, IfSome, OnOk, string_bytes};
+ghost use Rattle.asl_tool.specs.C.{IsPrinted, IsPrintedEntries, IsPrintedFor, IsPrintedWhole, IsRefusedEntries, IsRefusedPrinting, IsRefusedWhole};
 
 use crate::command_fault::CommandFault;
-use crate::commands::compile::program_of;
+use crate::commands::c_names::options_of;
+use crate::commands::greatest::program_at;
 use asl_code::Program;
 use asl_command_line::PathLimit;
-use asl_parallel_c::{Options, put_program};
+use asl_lists::with_entries;
+use asl_map::map_of;
+use asl_parallel_c::put_program;
 use std::alloc::{AllocError, Global};
 
-/// The C program of the program that is inferred for the source.
+/// How many operations a path has at most, if that is limited.
+fn limit_of(k_limit: &Option<PathLimit>) -> Option<u32>
+    ensures value { result ≡ k_limit.now }
+    ensures few { IfSome result (λ n. n ≤ 8) }
+{
+    match k_limit {
+        Some(k_limit) => Some(k_limit.operations()),
+        None => None,
+    }
+}
+
+/// The C program of the program that is inferred for the source; where entries are named, for the source with what calls them.
 pub fn printed(
     alloc: Global,
-    k_limit: &PathLimit,
+    k_limit: &Option<PathLimit>,
     checks: bool,
+    entries: &[String],
     source: &[u8],
 ) -> Result<Vec<u8>, CommandFault>
-    ensures ok { IfOk result (λ text. IsPrinted source.now k_limit.now checks text.items) }
-    ensures err { IfErr result (λ fault. IsRefusedSource source.now k_limit.now fault) }
+    ensures ok { IfOk result (λ text. IsPrinted source.now k_limit.now checks (map string_bytes entries.now) text.items) }
+    ensures err { IfErr result (λ fault. IsRefusedPrinting source.now k_limit.now (map string_bytes entries.now) fault) }
 {
-    let program = program_of(alloc, k_limit, source)?;
-    match text_of(alloc, &program, checks) {
+    let limit = limit_of(k_limit);
+    printed_at(alloc, limit, checks, entries, source)
+}
+
+/// The same with paths of at most so many operations.
+fn printed_at(
+    alloc: Global,
+    k: Option<u32>,
+    checks: bool,
+    entries: &[String],
+    source: &[u8],
+) -> Result<Vec<u8>, CommandFault>
+    requires { IfSome k (λ n. n ≤ 8) }
+    ensures ok { IfOk result (λ text. IsPrinted source.now k checks (map string_bytes entries.now) text.items) }
+    ensures err { IfErr result (λ fault. IsRefusedPrinting source.now k (map string_bytes entries.now) fault) }
+{
+    if entries.is_empty() {
+        return printed_whole(alloc, k, checks, entries, source);
+    }
+    printed_entries(alloc, k, checks, entries, source)
+}
+
+/// The same of a source with entries.
+fn printed_entries(
+    alloc: Global,
+    k: Option<u32>,
+    checks: bool,
+    entries: &[String],
+    source: &[u8],
+) -> Result<Vec<u8>, CommandFault>
+    requires { IfSome k (λ n. n ≤ 8) }
+    ensures ok { IfOk result (λ text. IsPrintedEntries source.now k checks (map string_bytes entries.now) text.items) }
+    ensures err { IfErr result (λ fault. IsRefusedEntries source.now k (map string_bytes entries.now) fault) }
+{
+    match with_entries(alloc, source, entries) {
+        Ok(whole) => printed_whole(alloc, k, checks, entries, &whole.text),
+        Err(_) => Err(CommandFault::OutOfMemory),
+    }
+}
+
+/// The same of a source with a `main`, of which C calls these functions.
+fn printed_whole(
+    alloc: Global,
+    k: Option<u32>,
+    checks: bool,
+    entries: &[String],
+    source: &[u8],
+) -> Result<Vec<u8>, CommandFault>
+    requires { IfSome k (λ n. n ≤ 8) }
+    ensures ok { IfOk result (λ text. IsPrintedWhole source.now k checks (map string_bytes entries.now) text.items) }
+    ensures err { IfErr result (λ fault. IsRefusedWhole source.now k fault) }
+{
+    let program = program_at(alloc, k, source)?;
+    match text_of(alloc, source, &program, checks, entries) {
         Ok(text) => Ok(text),
         Err(_) => Err(CommandFault::OutOfMemory),
     }
 }
 
-/// The text of the program, with no C functions in place of its own.
-fn text_of(alloc: Global, program: &Program, checks: bool) -> Result<Vec<u8>, AllocError>
-    ensures { IfOk result (λ text. IsPrintedFor checks program.now text.items) }
+/// The text of the program of an accepted source, which may be refused only where memory runs out.
+fn text_of(
+    alloc: Global,
+    source: &[u8],
+    program: &Program,
+    checks: bool,
+    entries: &[String],
+) -> Result<Vec<u8>, AllocError>
+    ensures { IfOk result (λ text. IsPrintedFor source.now checks (map string_bytes entries.now) program.now text.items) }
 {
-    let options = Options {
-        checks,
-        externs: Vec::new(alloc),
-        names: Vec::new(alloc),
+    let Ok(map) = map_of(alloc, source) else {
+        return Err(AllocError);
     };
+    let options = options_of(alloc, &map, checks, entries)?;
     let mut text = Vec::new(alloc);
     put_program(alloc, &mut text, program, &options)?;
     Ok(text)

@@ -1,5 +1,5 @@
 //! The command `compile`: from a source to the program that is inferred for it.
-ghost use Rattle.std.specs.Prelude.{IfOk, IfErr};
+ghost use Rattle.std.specs.Prelude.{◌≤◌, IfOk, IfErr};
 ghost use Rattle.asl_tool.specs.Compile.{IsCompiled, IsProgramFor, IsProgramWritten, IsRefusedSource};
 
 use crate::command_fault::CommandFault;
@@ -20,23 +20,20 @@ pub fn compiled(
     ensures ok { IfOk result (λ bytes. IsCompiled source.now k_limit.now as_text bytes.items) }
     ensures err { IfErr result (λ fault. IsRefusedSource source.now k_limit.now fault) }
 {
-    let program = program_of(alloc, k_limit, source)?;
+    let program = program_of(alloc, k_limit.operations(), source)?;
     match program_bytes(alloc, &program, as_text) {
         Ok(bytes) => Ok(bytes),
         Err(_) => Err(CommandFault::OutOfMemory),
     }
 }
 
-/// The program that is inferred for the source.
-pub(super) fn program_of(
-    alloc: Global,
-    k_limit: &PathLimit,
-    source: &[u8],
-) -> Result<Program, CommandFault>
-    ensures ok { IfOk result (λ program. IsProgramFor source.now k_limit.now program) }
-    ensures err { IfErr result (λ fault. IsRefusedSource source.now k_limit.now fault) }
+/// The program that is inferred for the source, with paths of at most `k` operations.
+pub(super) fn program_of(alloc: Global, k: u32, source: &[u8]) -> Result<Program, CommandFault>
+    requires { k ≤ 8 }
+    ensures ok { IfOk result (λ program. IsProgramFor source.now k program) }
+    ensures err { IfErr result (λ fault. IsRefusedSource source.now k fault) }
 {
-    match compile(alloc, source, k_limit.operations()) {
+    match compile(alloc, source, k) {
         Ok(program) => Ok(program),
         Err(CompileFault::Source(fault)) => Err(CommandFault::Source(fault)),
         Err(CompileFault::Infer(fault)) => Err(CommandFault::Infer(fault)),

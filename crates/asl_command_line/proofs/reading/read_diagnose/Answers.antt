@@ -7,4 +7,4 @@ use Rattle.asl_command_line.proofs.reading.read_diagnose.Goals as goal
 pub returns-in-Err : goal.returns-in-Err
 returns-in-Err c =
     misused c.invalid.result (codes "diagnose") (rows_of (found_of c.args.values.now)) _ c.invalid.ensures
-    (inr (inl (inr (inr (inr (inl refl))), record { none = c.in-Err.ensures.err; text_is = ap (λ (v : Text). invalid_text v (codes "--k <K>") a_length) c.in-Err.ensures.named })))
+    (inr (inl (inr (inr (inr refl)), record { none = c.in-Err.ensures.err; text_is = ap (λ (v : Text). invalid_text v (codes "--k <K>") a_length) c.in-Err.ensures.named })))
