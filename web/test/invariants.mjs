@@ -17,7 +17,7 @@ const SEEN = `(async () => { const { bench, tellView } = workbench, { lesson, ..
   window.undone = false;
   const bytes = async () => btoa(Array.from(await run.file(), byte => String.fromCharCode(byte)).join(''));
   return JSON.stringify({ moment, done: lesson && [lesson.file || lesson.number, lesson.done], typing: bench.past.typing, field: document.getElementById('text').value,
-    known: undone || window.seenText === undefined || bench.text === window.seenText || known.has(window.seenText), refused: Boolean(bench.refusal),
+    undone, known: undone || window.seenText === undefined || bench.text === window.seenText || known.has(window.seenText), refused: Boolean(bench.refusal),
     wide: root.scrollWidth - innerWidth, lecture: document.body.classList.contains('lecture'), width: innerWidth, height: innerHeight,
     wanted: Boolean(bench.wanted), undo: bench.past.before.length, dialog: Boolean(document.querySelector('dialog[open]')),
     run: run && run.length && run.length <= 1500 ? { length: run.length, position: bench.position, view: tellView(bench.state), file: await bytes() } : null }); })()`;
@@ -45,8 +45,9 @@ export async function watch(browser) {
   // What was typed in a row is one moment, so of it only the text before the row is kept.
   async function textLost(now) {
     const lost = !now.known && !now.typing;
-    await browser.run(now.typing ? '1' : 'window.seenText = workbench.bench.text, 1');
-    return lost ? 'a text is gone that undo does not bring back' : null;
+    const before = lost && await browser.run('({ was: window.seenText, is: workbench.bench.text, kept: workbench.bench.past.before.slice(-4).map(it => it.text) })');
+    await browser.run(!now.typing ? 'window.seenText = workbench.bench.text, 1' : now.undone ? 'window.seenText = undefined, 1' : '1');
+    return lost ? 'a text is gone that undo does not bring back: ' + JSON.stringify(before).slice(0, 900) : null;
   }
   // Undo changes something, and redo brings all back.
   async function thereAndBack(now) {
@@ -73,9 +74,10 @@ export async function watch(browser) {
     // (a file may have come just then: its text is shown once it is compiled)
     for (let i = 0; i < 3 && now.field !== now.moment.text; i++) {
       await browser.sleep(300);
-      const { known } = now;
+      const { known, undone } = now;
       now = await seen();
       now.known ||= known;
+      now.undone ||= undone;
     }
     if (browser.errors.length) return browser.errors[0];
     const field = now.field === now.moment.text ? null : 'the field has another text than the workbench';

@@ -142,7 +142,7 @@ for (let next = 0; Date.now() - began < MINUTES * 60000 && !browser.errors.lengt
   await act();
   if (done % 4 === 0) await browser.frames();
   // (some actions in a row, so that they come while another is under way)
-  if (below(3)) wrong = await look(['undo', 'reload'][below(25)]);
+  if (below(3)) log.push('== looked') && (wrong = await look(['undo', 'reload'][below(25)]));
   if (Date.now() - began < next) continue;
   next = Date.now() - began + MINUTES * 60000 / 30;
   const { own, module, nodes } = await memory();
@@ -155,7 +155,7 @@ const middle = list => [...list].sort((a, b) => a - b)[list.length >> 1] || 0;
 const early = middle(told.slice(told.length / 6, told.length / 2)), late = middle(told.slice(told.length / 2));
 console.log(`seed ${SEED}: ${done} actions, ${browser.errors.length} errors; ${early.toFixed(1)} MB in the first half, ${late.toFixed(1)} MB in the second`);
 browser.errors.slice(0, 5).forEach(text => console.log(text));
-if (wrong) console.log('the last actions:\n' + log.slice(-40).join('\n') + '\nWRONG:', wrong);
+if (wrong) console.log('the last actions:\n' + log.slice(-60).join('\n') + '\nWRONG:', wrong);
 const grew = late > early * 1.25 + 8 || most > 512;
 if (grew) console.log('memory grows');
 await browser.close();
