@@ -42,9 +42,9 @@ check_app = with_rule (new_app (codes "check")) (value_rule (codes "k"))
 abbrev pub map_app : App
 map_app = new_app (codes "map")
 
--- `explain [--k K] [--all]`
+-- `explain [--k K] [--all] [--classes]`
 abbrev pub explain_app : App
-explain_app = with_rule (with_rule (new_app (codes "explain")) (value_rule (codes "k"))) (flag_rule (codes "all"))
+explain_app = with_rule (with_rule (with_rule (new_app (codes "explain")) (value_rule (codes "k"))) (flag_rule (codes "all"))) (flag_rule (codes "classes"))
 
 -- `lists [--k K] [--entry F]..`
 abbrev pub lists_app : App

@@ -99,8 +99,8 @@ IsCommand name rows (command.Compile k_limit text) =
     (name ≡ codes "compile") × IsLengthAt rows k_limit × IsFlagAt (codes "text") rows text
 IsCommand name rows (command.Check k_limit) = (name ≡ codes "check") × IsLengthAt rows k_limit
 IsCommand name rows command.Map = name ≡ codes "map"
-IsCommand name rows (command.Explain k_limit all) =
-    (name ≡ codes "explain") × IsLengthAt rows k_limit × IsFlagAt (codes "all") rows all
+IsCommand name rows (command.Explain k_limit all classes) =
+    (name ≡ codes "explain") × IsLengthAt rows k_limit × IsFlagAt (codes "all") rows all × IsFlagAt (codes "classes") rows classes
 IsCommand name rows (command.Lists k_limit entries) =
     (name ≡ codes "lists") × IsLimitAt rows k_limit × AreEntriesAt rows (map string_bytes entries.items)
 IsCommand name rows (command.Diagnose assembly k_limit) =

@@ -70,7 +70,8 @@ fn explain_command<'a>(alloc: Global) -> Result<Command<'a>, AllocError>
 {
     let command = named(alloc, "explain", "asl explain")?;
     let command = with_argument(command, value(alloc, "k", "K"))?;
-    with_argument(command, flag(alloc, "all"))
+    let command = with_argument(command, flag(alloc, "all"))?;
+    with_argument(command, flag(alloc, "classes"))
 }
 
 fn lists_command<'a>(alloc: Global) -> Result<Command<'a>, AllocError>

@@ -36,8 +36,10 @@ pub enum Command {
     Explain {
         /// How many operations a lock's path has at most.
         k_limit: PathLimit,
-        /// Whether all chains of links are reported.
+        /// Whether all chains of links are told, or all members of classes.
         all: bool,
+        /// Whether the classes are told in place of the lists.
+        classes: bool,
     },
     /// `lists`: the lists of the input, a source, as one JSON document.
     Lists {

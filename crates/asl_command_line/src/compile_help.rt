@@ -112,9 +112,10 @@ pub const EXPLAIN: &str =
         Usage: asl explain [OPTIONS]\n\
         \n\
         Options:\n\
-        \u{20}     --k <K>  How many operations a path of a lock has at most, 0 to 8; 3 where it is not given\n\
-        \u{20}     --all    Tells every chain of links, also of locks that the list's lock contains\n\
-        \u{20} -h, --help   Print help\n\
+        \u{20}     --k <K>    How many operations a path of a lock has at most, 0 to 8; 3 where it is not given\n\
+        \u{20}     --all      Tells every chain of links, also of locks that the list's lock contains; with --classes every member\n\
+        \u{20}     --classes  Tells, in place of the lists, which objects each class has, and which statements join them\n\
+        \u{20} -h, --help     Print help\n\
         \n\
         Input: a source (docs/SOURCE.md)\n\
         Output: for each section its list, and below each lock its statements and links, in the source's words (docs/ANALYSIS.md); then the lists of each k\n\
@@ -122,6 +123,7 @@ pub const EXPLAIN: &str =
         Examples, from the top of the repository:\n\
         \u{20} ./asl explain < examples/counter.asl\n\
         \u{20} ./asl explain --k 1 --all < examples/walk.asl\n\
+        \u{20} ./asl explain --classes < examples/walk.asl\n\
         \n\
         Status: 0 done; 1 refused, with one line 'asl: NAME' on standard error; 2 wrong usage.\n\
         \n\

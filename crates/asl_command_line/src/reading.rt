@@ -153,7 +153,12 @@ fn read_explain(alloc: Global, values: &ArgMatches<'_>) -> Result<Invocation, Al
     match k_limit_at(values) {
         Ok(k_limit) => {
             let all = flag_at(values, "all");
-            Ok(Invocation::Alone(Command::Explain { k_limit, all }))
+            let classes = flag_at(values, "classes");
+            Ok(Invocation::Alone(Command::Explain {
+                k_limit,
+                all,
+                classes,
+            }))
         }
         Err(word) => invalid(alloc, word, "--k <K>", A_PATH_LIMIT),
     }

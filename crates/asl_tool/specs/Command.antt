@@ -1,5 +1,5 @@
 -- What each command makes of an input, and why it may refuse to (docs/CLI.md, "Refusals").
-use Rattle.std.specs.Prelude.{◌≡◌, ℕ, true, List, Option, map as each, string_bytes}
+use Rattle.std.specs.Prelude.{◌≡◌, ℕ, Bool, true, false, List, Option, map as each, string_bytes}
 use Rattle.asl_code.specs.declared.image.Image.{Image}
 use Rattle.asl_assembler.specs.Canonical.{canonical_text}
 use Rattle.asl_assembler.specs.Faults.{IsProgramText}
@@ -14,6 +14,7 @@ use Rattle.asl_tool.specs.declared.command_fault.CommandFault.{CommandFault}
 use Rattle.asl_tool.specs.declared.command_fault.CommandFault.TheVariants as fault
 use Rattle.asl_tool.specs.Program.{IsNoProgram}
 use Rattle.asl_diagnose.specs.RefusalText.{IsTold}
+use Rattle.asl_class_text.specs.Classes.{IsClassText}
 use Rattle.asl_explain.specs.Told.{IsText}
 use Rattle.asl_explain.specs.Explained as explain
 use Rattle.asl_explain.specs.declared.fault.ExplainFault.TheVariants as why
@@ -42,6 +43,11 @@ pub record IsDisassembled (bytes text : List ℕ) : Type 0 where
   pub program : IsProgramImage bytes image
   pub canonical : text ≡ canonical_text image
 
+-- the explanation of the source's lists, or the text of its classes
+abbrev pub IsExplained : List ℕ → ℕ → Bool → Bool → List ℕ → Type 0
+IsExplained input k_limit all false text = IsText input k_limit text
+IsExplained input k_limit all true text = IsClassText input all text
+
 -- the output of each command for an input
 abbrev pub IsOutput : Command → List ℕ → List ℕ → Type 0
 IsOutput (command.Step threads schedule record_it) input output = IsStepped input threads schedule.items record_it output
@@ -50,7 +56,7 @@ IsOutput command.Disassemble input text = IsDisassembled input text
 IsOutput (command.Compile k_limit as_text) input output = IsCompiled input k_limit as_text output
 IsOutput (command.Check k_limit) input text = IsChecked input k_limit text
 IsOutput command.Map input text = IsMapText input text
-IsOutput (command.Explain k_limit all) input text = IsText input k_limit text
+IsOutput (command.Explain k_limit all classes) input text = IsExplained input k_limit all classes text
 IsOutput (command.Lists k_limit entries) input text = IsListed input k_limit (each string_bytes entries.items) text
 IsOutput (command.Diagnose assembly k_limit) input text = IsTold input assembly k_limit text
 IsOutput (command.PrintC k_limit checks entries) input text = IsPrinted input k_limit checks (each string_bytes entries.items) text
@@ -121,7 +127,7 @@ IsRefusedCommand command.Disassemble input f = IsRefusedImage input f
 IsRefusedCommand (command.Compile k_limit as_text) input f = IsRefusedSource input k_limit f
 IsRefusedCommand (command.Check k_limit) input f = IsRefusedCheck input k_limit f
 IsRefusedCommand command.Map input f = IsRefusedMap input f
-IsRefusedCommand (command.Explain k_limit all) input f = IsRefusedExplain input k_limit f
+IsRefusedCommand (command.Explain k_limit all classes) input f = IsRefusedExplain input k_limit f
 IsRefusedCommand (command.Lists k_limit entries) input f = IsRefusedListing input k_limit (each string_bytes entries.items) f
 IsRefusedCommand (command.Diagnose assembly k_limit) input f = IsRefusedDiagnose f
 IsRefusedCommand (command.PrintC k_limit checks entries) input f = IsRefusedPrinting input k_limit (each string_bytes entries.items) f

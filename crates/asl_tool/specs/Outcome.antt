@@ -46,7 +46,7 @@ abbrev pub IsSettled : Command → Type 0
 IsSettled (command.Compile k_limit as_text) = ⊥
 IsSettled (command.Check k_limit) = ⊥
 IsSettled command.Map = ⊥
-IsSettled (command.Explain k_limit all) = ⊥
+IsSettled (command.Explain k_limit all classes) = ⊥
 IsSettled (command.Lists k_limit entries) = ⊥
 IsSettled (command.Diagnose assembly k_limit) = ⊥
 IsSettled (command.PrintC k_limit checks entries) = ⊥

@@ -44,7 +44,11 @@ pub fn output_of(alloc: Global, command: &Command, input: &[u8]) -> Result<Vec<u
         Command::Compile { k_limit, text } => compile::compiled(alloc, k_limit, *text, input),
         Command::Check { k_limit } => check::checked(alloc, k_limit, input),
         Command::Map => map::mapped_source(alloc, input),
-        Command::Explain { k_limit, all } => explain::explained_source(alloc, k_limit, *all, input),
+        Command::Explain {
+            k_limit,
+            all,
+            classes,
+        } => explain::explained_source(alloc, k_limit, *all, *classes, input),
         Command::Lists { k_limit, entries } => lists::listed_source(
             alloc,
             k_limit,

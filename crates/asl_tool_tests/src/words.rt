@@ -15,7 +15,7 @@ enum Wanted {
     Compile(u32, bool),
     Check(u32),
     Map,
-    Explain(u32, bool),
+    Explain(u32, bool, bool),
     Lists(Option<u32>, usize),
     Diagnose(bool, u32),
     PrintC(Option<u32>, bool, usize),
@@ -56,8 +56,12 @@ fn is_command(got: &Command, wanted: &Wanted) -> bool {
         Command::Check { k_limit } =>
             matches!(wanted, Wanted::Check(k) if k_limit.operations() == *k),
         Command::Map => matches!(wanted, Wanted::Map),
-        Command::Explain { k_limit, all } => {
-            matches!(wanted, Wanted::Explain(k, flag) if k_limit.operations() == *k && all == flag)
+        Command::Explain {
+            k_limit,
+            all,
+            classes,
+        } => {
+            matches!(wanted, Wanted::Explain(k, flag, other) if k_limit.operations() == *k && all == flag && classes == other)
         }
         Command::Lists { k_limit, entries } => {
             matches!(wanted, Wanted::Lists(k, count) if limit_of(k_limit) == *k && entries.len() == *count)
@@ -321,8 +325,10 @@ static CHECKS: [Row; 30] = [
     ("check --text", Wanted::WrongUsage),
     ("check 3", Wanted::WrongUsage),
     ("map --k 3", Wanted::WrongUsage),
-    ("explain", Wanted::Explain(3, false)),
-    ("explain --all --k 1", Wanted::Explain(1, true)),
+    ("explain", Wanted::Explain(3, false, false)),
+    ("explain --all --k 1", Wanted::Explain(1, true, false)),
+    ("explain --classes", Wanted::Explain(3, false, true)),
+    ("explain --classes --k 0 --all", Wanted::Explain(0, true, true)),
     ("explain --k 9", Wanted::WrongUsage),
     ("explain --asm", Wanted::WrongUsage),
     ("lists", Wanted::Lists(Some(3), 0)),

@@ -1,5 +1,5 @@
-use Rattle.std.proofs.Common.{◌≡◌, ◌≤◌, ℕ, List, Some, None, Option, ap, sym, subst, codes}
-use Rattle.std.specs.Prelude.{IfSome, MatchOption}
+use Rattle.std.proofs.Common.{◌≡◌, ℕ, List, Some, None, Option, ap, sym, subst, codes}
+use Rattle.std.specs.Prelude.{MatchOption}
 use Rattle.clap.specs.Words.{Row, Text, first_of, found_of, rows_of}
 use Rattle.asl_command_line.specs.Number.{IsNumber}
 use Rattle.asl_command_line.specs.Reading.{IsLimit}

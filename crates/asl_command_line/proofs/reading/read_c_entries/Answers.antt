@@ -1,4 +1,4 @@
-use Rattle.std.proofs.Common.{Bor, inl, inr, refl, ap, codes, subst}
+use Rattle.std.proofs.Common.{Bor, inr, refl, ap, codes, subst}
 use Rattle.clap.specs.Words.{Text, found_of, rows_of}
 use Rattle.asl_command_line.specs.Usage.{a_name, invalid_text}
 use Rattle.asl_command_line.specs.Reading.{IsEntriesFault}
