@@ -315,7 +315,7 @@ fn compiling(rt: HostRuntime) {
     check(&rt, &COMPILATIONS);
 }
 
-static CHECKS: [Row; 30] = [
+static CHECKS: [Row; 32] = [
     ("check", Wanted::Check(3)),
     ("check --k 0", Wanted::Check(0)),
     ("check --k=8", Wanted::Check(8)),
@@ -328,7 +328,10 @@ static CHECKS: [Row; 30] = [
     ("explain", Wanted::Explain(3, false, false)),
     ("explain --all --k 1", Wanted::Explain(1, true, false)),
     ("explain --classes", Wanted::Explain(3, false, true)),
-    ("explain --classes --k 0 --all", Wanted::Explain(0, true, true)),
+    (
+        "explain --classes --k 0 --all",
+        Wanted::Explain(0, true, true),
+    ),
     ("explain --k 9", Wanted::WrongUsage),
     ("explain --asm", Wanted::WrongUsage),
     ("lists", Wanted::Lists(Some(3), 0)),
