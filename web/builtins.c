@@ -53,3 +53,13 @@ i128 __lshrti3(i128 a, int bits) {
   }
   return to.whole;
 }
+
+#ifdef __wasm_simd128__
+/* The one instruction of x86-64 that the crates ask for by its name (serde_json does, by which it looks whether a text is UTF-8): of each byte
+ * of `at` the byte of `table` at its last four bits, or 0 where its first bit is set. */
+typedef unsigned char bytes __attribute__((vector_size(16)));
+bytes shuffle_bytes(bytes table, bytes at);
+bytes shuffle_bytes(bytes table, bytes at) {
+  return __builtin_wasm_swizzle_i8x16(table, at & 0x8f);
+}
+#endif
