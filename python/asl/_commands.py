@@ -80,7 +80,7 @@ def answer(words: List[str], source: Text, k: int = 3, assembly: Optional[bool] 
     if status == 0:
         return output
     if status != 1:
-        raise ValueError(errors.strip() or f"asl {' '.join(words)}: status {status}")
+        raise ValueError(errors.split("\n", 1)[0].removeprefix("error: ") or f"asl {' '.join(words)}: status {status}")
     reason = _reason(errors)
     raise Refused(reason) if assembly is None else _fault(reason, source, k, assembly)
 

@@ -185,10 +185,10 @@ class Lists(unittest.TestCase):
 
     def test_json(self):
         told = asl.lists(BANK)
-        self.assertEqual(json.loads(told.json())["sections"][0]["locks"][0]["lock"]["text"], "expr r0 write")
+        self.assertEqual(json.loads(told.json())["sections"][0]["locks"][0]["text"], "expr r0 write")
         done = subprocess.run([sys.executable, "-m", "asl", "lists", "--k", "auto"], input=BANK, capture_output=True, text=True, check=True)
         self.assertEqual(json.loads(done.stdout)["k"], 8)
-        for words, given, said in ((["lists"], "fn f() {", "asl: Grammar(8)"), (["lists", "--entry", "a b"], "", "asl: 'a b' is not the name of a function")):
+        for words, given, said in ((["lists"], "fn f() {", "asl: Grammar(8)"), (["lists", "--entry", "a b"], "", "asl: invalid value 'a b' for '--entry <F>': not the name of a function")):
             done = subprocess.run([sys.executable, "-m", "asl", *words], input=given, capture_output=True, text=True)
             self.assertEqual((done.returncode, done.stdout, done.stderr.strip()), (1, "", said))
 
