@@ -6,10 +6,10 @@ import { fileURLToPath } from 'node:url';
 import { browser, calm, check, key, open, part, run, settled, textOf } from './kit.mjs';
 import { EXAMPLES, PAGE, READY } from './paths.mjs';
 
-// A source of the worst kind for the inference: a section of many locks behind many statements, 50 deep.
+// A source of the worst kind for the inference: a section of many locks behind many statements, 60 deep.
 const times = (n, line) => Array.from({ length: n }, (_, i) => line(i)).join('');
-const WORST = times(16, n => `global g${n};\n`) + 'fn main(t) {\n' + times(16, n => `p${n} = &g${n};\n`) + 'atomic { '.repeat(50)
-  + times(100, () => 'x = t; '.repeat(100) + '\n') + times(2000, n => `f = &p${n % 16}[${n >> 4}]; x = *f; ` + (n % 20 ? '' : '\n')) + '}'.repeat(50) + '\nreturn t; }\n';
+const WORST = times(16, n => `global g${n};\n`) + 'fn main(t) {\n' + times(16, n => `p${n} = &g${n};\n`) + 'atomic { '.repeat(60)
+  + times(400, () => 'x = t; '.repeat(100) + '\n') + times(2000, n => `f = &p${n % 16}[${n >> 4}]; x = *f; ` + (n % 20 ? '' : '\n')) + '}'.repeat(60) + '\nreturn t; }\n';
 const COUNTER = readFileSync(EXAMPLES + 'counter.asl', 'utf8');
 
 // Types a text, and answers as soon as the toolchain has been asked; what takes a moment only may have been answered by then.
