@@ -2,7 +2,7 @@
 use Rattle.std.proofs.Common.{◌≡◌, ℕ, ◌+◌, ◌<◌, ◌≤◌, Bool, List, Some, length, map, slice_get, slice_set, ap, sym, subst, get_or, ◌∙◌}
 use Rattle.asl_code.specs.declared.lock.Lock.{Lock}
 use Rattle.asl_backward_flow.specs.declared.region_needs.RegionNeeds.{RegionNeeds}
-use Rattle.asl_backward_flow.specs.Found.{Table, table_of, AreApart, locks_of, first_of, sets_of, HasFact, IsWhole, Adds, Lists, Numbers, IsMarked, IsPut, list_at}
+use Rattle.asl_backward_flow.specs.Found.{Table, table_of, HasNoneTwice, locks_of, first_of, sets_of, HasFact, IsWhole, Adds, Lists, Numbers, IsMarked, IsPut, list_at}
 use Rattle.asl_backward_flow.proofs.ReplacedLists.{list_here}
 use Rattle.asl_backward_flow.proofs.Tables.{Step, step_of, locks_before, sets_before, first_before, is_over, adds_name, kept, adds_fact, has_fact, whole_fact, lists_fact}
 
@@ -27,7 +27,7 @@ module _ (parts : List RegionNeeds) (p q : ℕ) (x y : RegionNeeds) (list more :
   pub part_locks : locks_of after p ≡ y.locks.keys
   part_locks = ap (λ l. list_at l p) step.locks_are ∙ list_here (map (λ (z : RegionNeeds). z.locks.keys) parts) p y.locks.keys step.there
 
-  pub part_over : 4096 < length y.locks.keys → (4096 < length (locks_of after p)) × AreApart (locks_of after p)
+  pub part_over : 4096 < length y.locks.keys → (4096 < length (locks_of after p)) × HasNoneTwice (locks_of after p)
   part_over over = is_over before after p y.locks.keys y.needs.items step These numbered over
 
   module _ (place : ℕ) (these : ℕ → Type 0) (is_new : Bool) (marked : IsMarked x.needs.items y.needs.items place these is_new) (pc : ℕ) (at_place : pc ≡ x.first + place)

@@ -19,7 +19,7 @@ use Rattle.asl_code.specs.declared.path.Op.TheVariants.{Deref, Off}
 use Rattle.asl_lower.specs.declared.section.Section.{Section}
 use Rattle.asl_lower.specs.Lowered.{Lowered}
 use Rattle.asl_lower.specs.Operands.{HasOperands}
-use Rattle.asl_lower.specs.Region.{InBody}
+use Rattle.asl_lower.specs.OpenSections.{InBody}
 use Rattle.asl_lower.specs.Regions.{Region, Body, Inside, IsIn, Between}
 use Rattle.asl_lower.specs.LegalLowering.{IsLegalLowering}
 use Rattle.asl_lower.proofs.Layouts.{kept_layout}

@@ -4,7 +4,7 @@ use Rattle.asl_code.specs.declared.image.Function as entry
 use Rattle.asl_code.specs.declared.instr.Instr.{Instr}
 use Rattle.asl_code.specs.declared.instr.Instr.TheVariants as instr
 use Rattle.asl_code.specs.declared.lock.Lock.{Lock}
-use Rattle.asl_lower.specs.Region.{FlowsTo, start_of}
+use Rattle.asl_lower.specs.OpenSections.{FlowsTo, start_of}
 use Rattle.asl_lower.specs.Regions.{Region, Body, Inside, IsIn}
 use Rattle.asl_lock_expr.specs.Links.{IsOne, link, accesses, settle, renamed, dereferenced}
 use Rattle.asl_backward_flow.specs.declared.region.Region as code

@@ -6,7 +6,7 @@ use Rattle.asl_code.specs.declared.instr.Instr.TheVariants as instr
 use Rattle.asl_code.specs.declared.lock.Lock.{Lock}
 use Rattle.asl_lower.specs.declared.section.Section.{Section}
 use Rattle.asl_lower.specs.Lowered.{Lowered}
-use Rattle.asl_lower.specs.Region.{FlowsTo, start_of, InBody}
+use Rattle.asl_lower.specs.OpenSections.{FlowsTo, start_of, InBody}
 use Rattle.asl_lower.specs.Regions.{Region, Body, Inside, IsIn, IsEnd, Between}
 use Rattle.asl_lower.specs.LegalLowering.{IsLegalLowering}
 use Rattle.asl_lower.proofs.Counts.{sum_more}

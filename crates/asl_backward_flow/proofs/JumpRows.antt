@@ -4,7 +4,7 @@ use Rattle.asl_code.specs.declared.instr.Instr.{Instr}
 use Rattle.asl_code.specs.declared.instr.Instr.TheVariants as instr
 use Rattle.asl_lower.specs.Lowered.{Lowered}
 use Rattle.asl_lower.specs.LegalLowering.{IsLegalLowering}
-use Rattle.asl_lower.specs.Region.{FlowsTo}
+use Rattle.asl_lower.specs.OpenSections.{FlowsTo}
 use Rattle.asl_lower.proofs.Layouts.{kept_layout}
 use Rattle.asl_backward_flow.specs.Found.{list_at}
 use Rattle.asl_backward_flow.specs.Graph.{HasRows, IsEdge, IsJump, goes_to_next, jump_target}

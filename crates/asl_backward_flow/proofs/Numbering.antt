@@ -4,7 +4,7 @@ use Rattle.std.proofs.lemmas.Option.{slice_get_within}
 use Rattle.asl_code.specs.declared.lock.Lock.{Lock}
 use Rattle.asl_lane_sets.specs.NumberSet.{IsIn}
 use Rattle.asl_backward_flow.specs.declared.region_needs.RegionNeeds.{RegionNeeds}
-use Rattle.asl_backward_flow.specs.Found.{Table, table_of, AreApart, HasFact, IsNamed, IsWhole, IsMarked, IsPut, Numbers, Adds, Lists, locks_of}
+use Rattle.asl_backward_flow.specs.Found.{Table, table_of, HasNoneTwice, HasFact, IsNamed, IsWhole, IsMarked, IsPut, Numbers, Adds, Lists, locks_of}
 use Rattle.asl_backward_flow.proofs.Tables.{locks_before}
 use Rattle.asl_backward_flow.proofs.Additions.{part_adds, mark_adds, mark_has, mark_whole, mark_lists}
 
@@ -23,7 +23,7 @@ module _ (parts : List RegionNeeds) (p q : ℕ) (x : RegionNeeds) (list : List (
   stored n h = let m = named n h in (m.0, ap (λ l. slice_get l n) (sym keys) ∙ m.1, (n, h, m.1))
 
   numbers : Numbers x.locks.keys x.locks.keys Such
-  numbers = record { kept = λ n m e. e; only = λ n m e. inl e; apart = subst AreApart keys (whole.apart p); longer = omega arith }
+  numbers = record { kept = λ n m e. e; only = λ n m e. inl e; apart = subst HasNoneTwice keys (whole.apart p); longer = omega arith }
 
   pub numbers_small : (n : ℕ) → IsIn set n → n < 4096
   numbers_small n h =

@@ -7,7 +7,7 @@ use Rattle.std.proofs.lemmas.List.Sums.{sum_by-set}
 use Rattle.asl_code.specs.declared.lock.Lock.{Lock}
 use Rattle.asl_lane_sets.specs.NumberSet.{IsIn}
 use Rattle.asl_backward_flow.specs.declared.region_needs.RegionNeeds.{RegionNeeds}
-use Rattle.asl_backward_flow.specs.Found.{Table, table_of, IsAt, AreApart, list_at, locks_of, first_of, sets_of, HasPoint, Has, HasFact, IsWhole, Adds, Lists, Numbers, IsMarked, IsPut, free_in}
+use Rattle.asl_backward_flow.specs.Found.{Table, table_of, IsAt, HasNoneTwice, list_at, locks_of, first_of, sets_of, HasPoint, Has, HasFact, IsWhole, Adds, Lists, Numbers, IsMarked, IsPut, free_in}
 use Rattle.asl_backward_flow.proofs.Sets.{some_same}
 use Rattle.asl_backward_flow.proofs.ReplacedLists.{list_here, list_each, list_of, map_set, map_same}
 
@@ -72,8 +72,8 @@ module _ (old new : Table) (p : ℕ) (keys : List Lock) (sets : List (List Bool)
       locks_each (λ r l. (n : ℕ) (m : Lock) → slice_get l n ≡ Some m → slice_get (locks_of old r) n ≡ Some m ⊎ ((r ≡ p) × These m))
       (λ n m e. ⊎_elim (λ x. inl x) (λ x. inr (refl, x)) (numbers.only n m e)) (λ r no n m e. inl e) q
 
-  names_apart : ((q : ℕ) → AreApart (locks_of old q)) → (q : ℕ) → AreApart (locks_of new q)
-  names_apart was q = locks_each (λ r l. AreApart l) numbers.apart (λ r no. was r) q
+  names_apart : ((q : ℕ) → HasNoneTwice (locks_of old q)) → (q : ℕ) → HasNoneTwice (locks_of new q)
+  names_apart was q = locks_each (λ r l. HasNoneTwice l) numbers.apart (λ r no. was r) q
 
   names_few : ((q : ℕ) → length (locks_of old q) ≤ 4096) → length keys ≤ 4096 → (q : ℕ) → length (locks_of new q) ≤ 4096
   names_few was here q = locks_each (λ r l. length l ≤ 4096) here (λ r no. was r) q
@@ -81,8 +81,8 @@ module _ (old new : Table) (p : ℕ) (keys : List Lock) (sets : List (List Bool)
   keys_here : locks_of new p ≡ keys
   keys_here = ap (λ l. list_at l p) s.locks_are ∙ list_here old.locks p keys s.there
 
-  pub is_over : 4096 < length keys → (4096 < length (locks_of new p)) × AreApart (locks_of new p)
-  is_over over = (subst (λ l. 4096 < length l) (sym keys_here) over, subst AreApart (sym keys_here) numbers.apart)
+  pub is_over : 4096 < length keys → (4096 < length (locks_of new p)) × HasNoneTwice (locks_of new p)
+  is_over over = (subst (λ l. 4096 < length l) (sym keys_here) over, subst HasNoneTwice (sym keys_here) numbers.apart)
 
   first_same : (q : ℕ) → first_of new q ≡ first_of old q
   first_same q = ap (λ l. unwrap_or (slice_get l q) 0) s.firsts

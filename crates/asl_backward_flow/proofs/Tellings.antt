@@ -18,7 +18,7 @@ use Rattle.asl_lane_sets.specs.NumberSet.{IsIn}
 use Rattle.std.proofs.lemmas.List.{length-map}
 use Rattle.asl_backward_flow.specs.declared.found.AddFault.TheVariants.{Many}
 use Rattle.asl_backward_flow.specs.Needed.{Needed, RegionNeeds, IsInNeeds, IsTold, TellsNeeded, AreParts, NeedsMany, region_of}
-use Rattle.asl_backward_flow.specs.Found.{Table, table_of, list_at, AreApart, IsName, HasFact, locks_of, sets_of, first_of}
+use Rattle.asl_backward_flow.specs.Found.{Table, table_of, list_at, HasNoneTwice, IsName, HasFact, locks_of, sets_of, first_of}
 use Rattle.asl_backward_flow.specs.Follows.{Read, IsRead, IsAll, Overflows}
 use Rattle.asl_backward_flow.specs.Parts.{part, AreAtTheirNumbers, TellsAll}
 use Rattle.asl_backward_flow.proofs.Leasts.{needed_inside}
@@ -28,7 +28,7 @@ use Rattle.asl_backward_flow.proofs.Listing.{of_part, part_of, region_one}
 use Rattle.asl_backward_flow.proofs.Sets.{some_same}
 
 -- different places have different locks
-apart_pairs : (locks : List Lock) → AreApart locks → AllPairs (λ a b. a ≢ b) locks
+apart_pairs : (locks : List Lock) → HasNoneTwice locks → AllPairs (λ a b. a ≢ b) locks
 apart_pairs locks apart i j d lt below e =
     let at_i : slice_get locks i ≡ Some (get_or locks i d) = slice_get-get_or locks i d (omega (arith, lt, below)) in
     let at_j : slice_get locks j ≡ Some (get_or locks j d) = slice_get-get_or locks j d below in
@@ -169,7 +169,7 @@ module _ (r : Read) (read : IsRead r) (items : List code.RegionNeeds) (list : Li
     distinct = parts_distinct;
     different = λ n p at.
         let d = unmapped part items n p at in
-        let own : AreApart d.0.locks.keys = subst AreApart (locks_at n d.0 d.1) (all.ready.whole.apart n) in
+        let own : HasNoneTwice d.0.locks.keys = subst HasNoneTwice (locks_at n d.0 d.1) (all.ready.whole.apart n) in
         subst (λ (x : RegionNeeds). AllPairs (λ a b. a ≢ b) x.locks) d.2 (apart_pairs d.0.locks.keys own);
     used = λ n i p lock at has.
         let d = unmapped part items n p at in

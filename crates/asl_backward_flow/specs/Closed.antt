@@ -6,7 +6,7 @@ use Rattle.asl_code.specs.declared.instr.Instr.{Instr}
 use Rattle.asl_code.specs.declared.instr.Instr.TheVariants as instr
 use Rattle.asl_code.specs.declared.lock.Lock.{Lock}
 use Rattle.asl_lower.specs.Lowered.{Lowered}
-use Rattle.asl_lower.specs.Region.{FlowsTo, start_of}
+use Rattle.asl_lower.specs.OpenSections.{FlowsTo, start_of}
 use Rattle.asl_lower.specs.Regions.{Region, Body, IsIn}
 use Rattle.asl_points_to.specs.Classes.{Classed}
 use Rattle.asl_lock_expr.specs.Links.{view, IsOne, link, settle, accesses, renamed, dereferenced}

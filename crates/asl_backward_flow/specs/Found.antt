@@ -37,8 +37,8 @@ abbrev pub IsAt : {A : Type 0} → List A → A → Type 0
 IsAt xs x = (n : ℕ) × (slice_get xs n ≡ Some x)
 
 -- no two places of the list have the same lock
-abbrev pub AreApart : List Lock → Type 0
-AreApart locks = (m n : ℕ) (a : Lock) → slice_get locks m ≡ Some a → slice_get locks n ≡ Some a → m ≡ n
+abbrev pub HasNoneTwice : List Lock → Type 0
+HasNoneTwice locks = (m n : ℕ) (a : Lock) → slice_get locks m ≡ Some a → slice_get locks n ≡ Some a → m ≡ n
 
 -- the list, or the set, at a place; an empty one past the end
 abbrev pub list_at : {A : Type 0} → List (List A) → ℕ → List A
@@ -84,12 +84,12 @@ IsListed locks numbers = HasNumber locks (Contains numbers)
 pub record IsWhole (t : Table) : Type 0 where
   pub named : (part pc n : ℕ) → Has t part pc n → (m : Lock) × (slice_get (locks_of t part) n ≡ Some m)
   pub listed : (f : ℕ × ℕ) → IsAt t.list f → (n : ℕ) × Has t f.0 f.1 n
-  pub apart : (part : ℕ) → AreApart (locks_of t part)
+  pub apart : (part : ℕ) → HasNoneTwice (locks_of t part)
   pub few : (part : ℕ) → length (locks_of t part) ≤ 4096
 
 -- a region has too many locks, none twice
 abbrev pub IsOver : Table → AddFault → Type 0
-IsOver t (Many part) = (4096 < length (locks_of t part)) × AreApart (locks_of t part)
+IsOver t (Many part) = (4096 < length (locks_of t part)) × HasNoneTwice (locks_of t part)
 IsOver t OutOfMemory = Unit {0}
 
 -- a span's region, with nothing found yet
@@ -120,7 +120,7 @@ pub record Grows (old new : Table) : Type 0 where
 pub record Numbers (old new : List Lock) (These : Lock → Type 0) : Type 0 where
   pub kept : (n : ℕ) (m : Lock) → slice_get old n ≡ Some m → slice_get new n ≡ Some m
   pub only : (n : ℕ) (m : Lock) → slice_get new n ≡ Some m → slice_get old n ≡ Some m ⊎ These m
-  pub apart : AreApart new
+  pub apart : HasNoneTwice new
   pub longer : length new ≤ length old + 1
 
 -- a set that has the numbers of these locks too

@@ -1,7 +1,7 @@
 -- Machinery of the proofs, not of the promise: where the regions lie in the code (src/span.rt).
 use Rattle.std.specs.Prelude.{◌≡◌, ◌+◌, ◌<◌, ◌≤◌, ℕ, List, length, Some, slice_get}
 use Rattle.asl_lower.specs.Lowered.{Lowered}
-use Rattle.asl_lower.specs.Region.{start_of, IsInner}
+use Rattle.asl_lower.specs.OpenSections.{start_of, IsInner}
 use Rattle.asl_lower.specs.Regions.{Region, IsIn}
 use Rattle.asl_backward_flow.specs.declared.region.Region.TheVariants as variant
 use Rattle.asl_backward_flow.specs.declared.span.Span.{Span}

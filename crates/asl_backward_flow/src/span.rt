@@ -1,6 +1,6 @@
 //! Where the regions lie in the code.
 ghost use Rattle.std.specs.Prelude.{◌≡◌, ◌<◌, ◌≤◌, ◌↔◌, IsTrue, [], length, IfOk, OnOk};
-ghost use Rattle.asl_lower.specs.Region.{IsInner};
+ghost use Rattle.asl_lower.specs.OpenSections.{IsInner};
 ghost use Rattle.asl_backward_flow.specs.Spans.{IsSpan, AreSpans, AreSections};
 
 use crate::region::Region;

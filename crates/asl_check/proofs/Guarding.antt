@@ -16,7 +16,7 @@ use Rattle.asl_code.specs.Fits.{HasBase, HasLock}
 use Rattle.asl_lock_forest.specs.Holding.{Holding, grant}
 use Rattle.asl_lower.specs.declared.section.Section.{Section}
 use Rattle.asl_lower.specs.Lowered.{Lowered}
-use Rattle.asl_lower.specs.Region.{InBody}
+use Rattle.asl_lower.specs.OpenSections.{InBody}
 use Rattle.asl_lower.proofs.Owner.{from_mapped}
 use Rattle.asl_lower.proofs.Inside.{told as section_told}
 use Rattle.asl_points_to.specs.Classes.{Classed}

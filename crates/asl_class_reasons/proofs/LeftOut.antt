@@ -8,7 +8,7 @@ use Rattle.std.proofs.Math.Seq.{get_or-append_seam}
 use Rattle.asl_code.specs.declared.instr.Instr.{Instr}
 use Rattle.asl_code.specs.declared.instr.Instr.TheVariants as instr
 use Rattle.asl_lower.specs.Lowered.{Lowered}
-use Rattle.asl_lower.specs.Region.{InBody}
+use Rattle.asl_lower.specs.OpenSections.{InBody}
 use Rattle.asl_lower.specs.Facts.{HasLayout}
 use Rattle.asl_points_to.specs.Classes.{Classed, members, Share, IsLegal, IsLegalAt, GoInto, AreClasses}
 use Rattle.asl_class_reasons.specs.declared.place.Place.{Place}

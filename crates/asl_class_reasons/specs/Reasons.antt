@@ -5,7 +5,7 @@ use Rattle.asl_code.specs.declared.image.Function as entry
 use Rattle.asl_code.specs.declared.instr.Instr.{Instr}
 use Rattle.asl_code.specs.declared.instr.Instr.TheVariants as instr
 use Rattle.asl_lower.specs.Lowered.{Lowered}
-use Rattle.asl_lower.specs.Region.{InBody}
+use Rattle.asl_lower.specs.OpenSections.{InBody}
 use Rattle.asl_points_to.specs.Classes.{Classed, to, inside, members, AreClasses, Share}
 use Rattle.asl_class_reasons.specs.declared.place.Place.{Place}
 use Rattle.asl_class_reasons.specs.declared.place.Place.TheVariants as place

@@ -7,7 +7,7 @@ ghost use Rattle.asl_class_reasons.specs.Draft.{number, Has, IsThere, IsThereFlo
 
 use crate::flow::{Flow, Owed};
 use crate::place::{Cause, Place, Step};
-use crate::sets::DisjointSets;
+use asl_points_to::DisjointSets;
 use std::alloc::{AllocError, Global};
 
 /// The steps of a program on the way. Places that they join are in one set, whose first is a member where they point somewhere.

@@ -10,7 +10,6 @@ mod parting;
 mod place;
 mod reasons;
 mod search;
-mod sets;
 mod settle;
 mod step_ends;
 

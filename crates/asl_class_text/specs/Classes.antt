@@ -14,7 +14,7 @@ use Rattle.asl_class_text.specs.declared.facts.Facts.{Facts}
 use Rattle.asl_class_text.specs.declared.told.ToldPair.{ToldPair}
 use Rattle.asl_class_text.specs.declared.told.ToldClass.{ToldClass}
 use Rattle.asl_class_text.specs.Numbered.{numbered}
-use Rattle.asl_class_text.specs.Places.{lines_from}
+use Rattle.asl_map.specs.Lines.{lines_from}
 use Rattle.asl_class_text.specs.Texts.{shown, classes_text}
 use Rattle.asl_class_text.specs.Chains.{IsToldChain}
 

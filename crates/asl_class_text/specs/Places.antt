@@ -4,15 +4,6 @@ use Rattle.asl_map.specs.declared.text_piece.Area.{Area}
 use Rattle.asl_map.specs.declared.text_piece.Piece.{Piece}
 use Rattle.asl_class_text.specs.declared.facts.Facts.{Facts}
 
--- the line after a byte of a line
-abbrev pub line_after : ℕ → ℕ → ℕ
-line_after line byte = if byte == 10 then line + 1 else line
-
--- the line of each byte of a text and of its end, where it begins in this one
-abbrev pub lines_from : ℕ → List ℕ → List ℕ
-lines_from line [] = line ∷ []
-lines_from line (byte ∷ bytes) = line ∷ lines_from (line_after line byte) bytes
-
 -- the line of a place of the text
 abbrev pub line_of : List ℕ → ℕ → ℕ
 line_of lines place = unwrap_or (slice_get lines place) 0

@@ -3,9 +3,8 @@ ghost use Rattle.std.specs.Prelude.{◌≡◌, ◌<◌, ◌^◌, length, IfOk};
 ghost use Rattle.asl_points_to.specs.Classes.{members, AreClasses};
 ghost use Rattle.asl_class_text.specs.Classes.{AreFactsOf};
 
-use crate::line_table::line_table;
 use asl_lower::Lowering;
-use asl_map::Map;
+use asl_map::{Map, line_table};
 use asl_points_to::Classes;
 use std::alloc::{AllocError, Global};
 

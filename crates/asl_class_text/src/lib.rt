@@ -5,7 +5,6 @@ mod chain;
 mod class_text;
 mod facts;
 mod kinds;
-mod line_table;
 mod lines;
 mod making;
 mod parting;

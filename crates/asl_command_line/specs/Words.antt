@@ -1,5 +1,5 @@
 -- What the words of a command line ask for (docs/CLI.md, "Commands"). What `clap` makes of words
--- is reported by its own definitions: `fault_of` are the kinds of error that it may give, none where it takes the words, and
+-- is told by its own definitions: `fault_of` are the kinds of error that it may give, none where it takes the words, and
 -- `subcommand_of` is the command that they name, with the values of its arguments by their names.
 use Rattle.std.specs.Char.{is_ascii_alphabetic, is_ascii_alphanumeric}
 use Rattle.std.specs.Prelude.{string_bytes, map, ◌&&◌, ◌||◌, ◌==◌, ◌≡◌, ◌≢◌, ◌≤◌, ◌⊎◌, ℕ, Bool, true, false, List, [], ◌∷◌, ◌++◌, Option, None, Some, codes, unwrap_or, IfSome, IsSomeAnd, MatchOption}

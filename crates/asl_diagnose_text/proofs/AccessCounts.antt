@@ -9,7 +9,7 @@ use Rattle.asl_syntax.specs.Tree.{Value, IntegerValue, NullValue, LocalValue, Bi
 use Rattle.asl_lower.specs.Names.{Scope, register, function_number, scope_of}
 use Rattle.asl_lower.specs.Lowered.{Lowered, IsLowering, first_argument, else_target}
 use Rattle.asl_lower.specs.Place.{Place, next, entered, origin, past_stmt, past_block, past_else, past_function}
-use Rattle.asl_lower.specs.Region.{is_access}
+use Rattle.asl_lower.specs.OpenSections.{is_access}
 use Rattle.asl_lower.specs.Layout.{moves, value_code, stmt_code, block_code, else_code, function_code, functions_code}
 use Rattle.asl_lower.proofs.Laid.{code_is}
 use Rattle.asl_diagnose_text.specs.declared.code_walk.Passed.{Passed}

@@ -14,7 +14,7 @@ use Rattle.asl_syntax.specs.Spelled.{line_meaning, stmt_meaning, block_meaning, 
 use Rattle.asl_lower.specs.Names.{Scope, register, function_number, scope_of}
 use Rattle.asl_lower.specs.Lowered.{first_argument}
 use Rattle.asl_lower.specs.Place.{Place, next, entered, origin, past_stmt, past_block, past_function}
-use Rattle.asl_lower.specs.Region.{is_access}
+use Rattle.asl_lower.specs.OpenSections.{is_access}
 use Rattle.asl_lower.specs.Layout.{moves, stmt_code, block_code, else_code, function_code, functions_code}
 use Rattle.asl_diagnose_text.specs.declared.word_place.Word.TheVariants as word
 use Rattle.asl_diagnose_text.specs.Places.{accesses_before, words_in}

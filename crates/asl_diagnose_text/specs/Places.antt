@@ -7,7 +7,7 @@ use Rattle.asl_grammar.specs.Token.{Token, Fixed, Name, Spot}
 use Rattle.asl_grammar.specs.Lex.{tokens_of}
 use Rattle.asl_syntax.specs.Tree.{Item, functions_of}
 use Rattle.asl_lower.specs.Place.{origin, past_functions}
-use Rattle.asl_lower.specs.Region.{is_access}
+use Rattle.asl_lower.specs.OpenSections.{is_access}
 use Rattle.asl_diagnose_text.specs.declared.word_place.Word.{Word}
 use Rattle.asl_diagnose_text.specs.declared.word_place.Word.TheVariants as word
 use Rattle.asl_diagnose_text.specs.declared.declared.Declares.{Declares}

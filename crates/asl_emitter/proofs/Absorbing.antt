@@ -1,4 +1,4 @@
--- Which lock does in place of another can be reported, and absorbing is a strict order: of the locks that absorb one, some are kept.
+-- Which lock does in place of another can be told, and absorbing is a strict order: of the locks that absorb one, some are kept.
 use Rattle.std.proofs.Common.{◌≡◌, ◌≢◌, ◌<◌, ◌⊎◌, ℕ, zero, suc, true, false, List, [], ◌∷◌, Option, Some, None, refl, ap, sym, ◌∙◌, subst, inl, inr, arith}
 use Rattle.std.specs.Prelude.{IsTrue}
 use Rattle.std.proofs.lemmas.Bool.Decides.{eqb_tells}

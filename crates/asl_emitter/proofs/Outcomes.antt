@@ -3,7 +3,7 @@ use Rattle.std.proofs.Common.{◌≡◌, ◌⊎◌, inl, inr, ℕ, Bool, List, r
 use Rattle.asl_syntax.specs.Tree.{Item}
 use Rattle.asl_lower.specs.Lowered.{Lowered, IsLowering}
 use Rattle.asl_lower.specs.Regions.{Region}
-use Rattle.asl_lower.specs.Region.{InBody, IsFirstBareAccess}
+use Rattle.asl_lower.specs.OpenSections.{InBody, IsFirstBareAccess}
 use Rattle.asl_lower.proofs.Laid.{one_lowering}
 use Rattle.asl_lower.proofs.BodyFacts.{lowering_parted}
 use Rattle.asl_points_to.specs.Classes.{Classed, AreClasses}

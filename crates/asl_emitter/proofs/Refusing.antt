@@ -2,7 +2,7 @@
 use Rattle.std.proofs.Common.{◌≤◌, ℕ, List, sym, subst}
 use Rattle.asl_syntax.specs.Tree.{Item}
 use Rattle.asl_lower.specs.Lowered.{Lowered, IsLowering}
-use Rattle.asl_lower.specs.Region.{IsBareAccess}
+use Rattle.asl_lower.specs.OpenSections.{IsBareAccess}
 use Rattle.asl_lower.specs.Refused.{HasRoom, IsRefusedLowering as IsNotLowered}
 use Rattle.asl_lower.specs.declared.fault.LowerFault.{LowerFault}
 use Rattle.asl_lower.specs.declared.fault.LowerFault.TheVariants as lower

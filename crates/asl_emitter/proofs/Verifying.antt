@@ -17,7 +17,7 @@ use Rattle.asl_code.specs.declared.lock.Lock.{Lock}
 use Rattle.asl_code.specs.declared.lock.Lock.TheVariants as lock
 use Rattle.asl_lower.specs.declared.section.Section.{Section}
 use Rattle.asl_lower.specs.Lowered.{Lowered}
-use Rattle.asl_lower.specs.Region.{InBody, FlowsTo}
+use Rattle.asl_lower.specs.OpenSections.{InBody, FlowsTo}
 use Rattle.asl_lower.specs.Regions.{Inside}
 use Rattle.asl_lower.specs.LegalLowering.{IsLegalLowering}
 use Rattle.asl_lower.specs.Facts.{HasLayout}

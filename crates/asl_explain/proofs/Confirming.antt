@@ -7,7 +7,7 @@ use Rattle.asl_code.specs.declared.instr.Instr.{Instr}
 use Rattle.asl_code.specs.declared.instr.Instr.TheVariants as instr
 use Rattle.asl_code.specs.declared.lock.Lock.{Lock}
 use Rattle.asl_lower.specs.Regions.{Region, Body, IsIn}
-use Rattle.asl_lower.specs.Region.{start_of}
+use Rattle.asl_lower.specs.OpenSections.{start_of}
 use Rattle.asl_lock_expr.specs.Links.{LinkContext, view, IsOne, settle, renamed}
 use Rattle.asl_lock_expr.specs.Stores.{stores}
 use Rattle.asl_backward_flow.specs.declared.region.Region.TheVariants as variant

@@ -5,7 +5,7 @@ use Rattle.asl_code.specs.declared.instr.Instr.{Instr}
 use Rattle.asl_code.specs.declared.lock.Lock.{Lock}
 use Rattle.asl_lower.specs.declared.section.Section.{Section}
 use Rattle.asl_lower.specs.Lowered.{Lowered}
-use Rattle.asl_lower.specs.Region.{FlowsTo, start_of}
+use Rattle.asl_lower.specs.OpenSections.{FlowsTo, start_of}
 use Rattle.asl_lower.specs.Regions.{Region, Body, Inside, IsIn}
 use Rattle.asl_lock_expr.specs.Links.{view, IsOne, before, link}
 use Rattle.asl_lock_expr.specs.Stores.{stores}

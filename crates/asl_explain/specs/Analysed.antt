@@ -8,7 +8,7 @@ use Rattle.asl_lower.specs.declared.section.Section.{Section}
 use Rattle.asl_syntax.specs.Tree.{Item}
 use Rattle.asl_syntax.specs.Parsed.{Parses}
 use Rattle.asl_lower.specs.Lowered.{Lowered, IsLowering}
-use Rattle.asl_lower.specs.Region.{FlowsTo}
+use Rattle.asl_lower.specs.OpenSections.{FlowsTo}
 use Rattle.asl_lower.specs.Regions.{IsIn}
 use Rattle.asl_points_to.specs.Classes.{Classed, AreClasses}
 use Rattle.asl_emitter.specs.Refused.{IsAccepted}

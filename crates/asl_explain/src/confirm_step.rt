@@ -2,7 +2,7 @@
 ghost use Rattle.std.specs.Prelude.{◌≡◌, ◌<◌, ℕ, Some, IfOk, IfSome, OnOk, IsTrue, length, slice_get};
 ghost use Rattle.asl_code.specs.declared.image.Function.{Function};
 ghost use Rattle.asl_code.specs.declared.instr.Instr.{Instr};
-ghost use Rattle.asl_lower.specs.Region.{FlowsTo, start_of};
+ghost use Rattle.asl_lower.specs.OpenSections.{FlowsTo, start_of};
 ghost use Rattle.asl_lower.specs.Regions.{Body, IsIn};
 ghost use Rattle.asl_backward_flow.specs.Needed.{region_of};
 ghost use Rattle.asl_explain.specs.Chains.{Needs, Stays, StandsAt, IsAccess, IsLink, IsEntry, IsFront, Follows};

@@ -52,7 +52,7 @@ pub fn explain(alloc: Global, source: &[u8], k: u32) -> Result<Explanation, Expl
     }
 }
 
-/// The explanation as a text; with `all` each chain is reported.
+/// The explanation as a text; with `all` each chain is told.
 ///
 /// # Errors
 ///

@@ -65,7 +65,7 @@ impl Places<'_> {
         }
     }
 
-    /// The name of a register of a function; an argument's register has none, and is reported by its number.
+    /// The name of a register of a function; an argument's register has none, and is told by its number.
     pub fn register(&self, function: u16, register: u8) -> Result<String, AllocError> {
         let name = self.map.register_name(function, register);
         self.name(name, "r", u16::from(register))

@@ -23,13 +23,13 @@ const MAX_CONTAINED: usize = 6;
 /// What stands in place of the line and the statement of an instruction.
 const NO_PLACE: &str = "                                       ";
 
-/// What an explanation is written from: the analysis of a source with its names and places, and how much is reported.
+/// What an explanation is written from: the analysis of a source with its names and places, and how much is told.
 #[derive(Clone, Copy)]
 pub struct Teller<'a> {
     pub alloc: Global,
     pub analysis: &'a ExplainAnalysis,
     pub places: &'a Places<'a>,
-    /// Whether every chain is reported.
+    /// Whether every chain is told.
     pub all: bool,
 }
 

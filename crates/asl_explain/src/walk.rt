@@ -2,7 +2,7 @@
 ghost use Rattle.std.specs.Prelude.{◌≡◌, ◌<◌, ◌≤◌, ◌⊎◌, ℕ, suc, IfOk, IfSome, OnOk, IsTrue, length, slice_get};
 ghost use Rattle.asl_code.specs.declared.instr.Instr.TheVariants.{Release};
 ghost use Rattle.asl_code.specs.declared.lock.Lock.{Lock as AnyLock};
-ghost use Rattle.asl_lower.specs.Region.{FlowsTo};
+ghost use Rattle.asl_lower.specs.OpenSections.{FlowsTo};
 ghost use Rattle.asl_lock_expr.specs.Links.{LinkContext as Context, IsOne, link, view};
 ghost use Rattle.asl_lock_expr.specs.LinksView.{seen};
 ghost use Rattle.asl_lock_expr.specs.Stores.{stores};

@@ -12,7 +12,7 @@ use Rattle.asl_lists.specs.declared.driver.Entry.{Entry}
 use Rattle.asl_lists.specs.declared.facts.Facts.{Facts}
 use Rattle.asl_lists.specs.declared.fault.ListsFault.{ListsFault}
 use Rattle.asl_lists.specs.declared.fault.ListsFault.TheVariants.{Refused, OutOfMemory}
-use Rattle.asl_lists.specs.Places.{lines_from}
+use Rattle.asl_map.specs.Lines.{lines_from}
 use Rattle.asl_lists.specs.Document.{document_text}
 use Rattle.asl_lists.specs.Driver.{AreEntries, driver}
 use Rattle.asl_lists.specs.Lengths.{IsLength, IsRefusedAt}

@@ -2,7 +2,7 @@
 use Rattle.std.specs.Prelude.{ℕ, List, [], ◌∷◌, Option, None, Some, if◌then◌else◌, ◌==◌, ◌+◌, nat_lt, length, codes, encode_utf8_all, slice_get, unwrap_or}
 use Rattle.serde_json.specs.Data.{Data, number, string, object, unsigned, member, no_members}
 use Rattle.asl_lower.specs.Lowered.{Lowered}
-use Rattle.asl_lower.specs.Region.{owner_of}
+use Rattle.asl_lower.specs.OpenSections.{owner_of}
 use Rattle.asl_map.specs.declared.map.Map.{Map}
 use Rattle.asl_map.specs.declared.text_piece.Area.{Area}
 use Rattle.asl_map.specs.declared.text_piece.Piece.{Piece}
@@ -12,15 +12,6 @@ use Rattle.asl_lists.specs.declared.facts.Facts.{Facts}
 -- a number, as data
 abbrev pub count : ℕ → Data
 count n = number (unsigned n)
-
--- the line after a byte of a line
-abbrev pub line_after : ℕ → ℕ → ℕ
-line_after line byte = if byte == 10 then line + 1 else line
-
--- the line of each byte of a text and of its end, where it begins in this one
-abbrev pub lines_from : ℕ → List ℕ → List ℕ
-lines_from line [] = line ∷ []
-lines_from line (byte ∷ bytes) = line ∷ lines_from (line_after line byte) bytes
 
 -- the line of a place of the text
 abbrev pub line_of : List ℕ → ℕ → ℕ

@@ -8,7 +8,6 @@ mod facts;
 mod fault;
 mod function_values;
 mod greatest;
-mod line_table;
 mod listed_source;
 mod lock_values;
 mod lock_words;

@@ -8,7 +8,7 @@ use Rattle.asl_code.specs.declared.path.Op.{Op}
 use Rattle.asl_code.specs.declared.path.Op.TheVariants.{Deref, Off}
 use Rattle.asl_code.specs.declared.instr.Instr.TheVariants as instr
 use Rattle.asl_lower.specs.Lowered.{Lowered}
-use Rattle.asl_lower.specs.Region.{InBody, CallsAt}
+use Rattle.asl_lower.specs.OpenSections.{InBody, CallsAt}
 use Rattle.asl_points_to.specs.Classes.{Classed, to, inside}
 
 -- the class at the base: that to which the register points, or the global's

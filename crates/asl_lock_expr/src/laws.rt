@@ -13,7 +13,7 @@ ghost use Rattle.asl_code.specs.declared.lock.Lock.{Lock};
 ghost use Rattle.asl_code.specs.declared.lock.Lock.TheVariants.{Class as ClassLock};
 ghost use Rattle.asl_code.specs.declared.path.Op.{Op};
 ghost use Rattle.asl_lower.specs.Lowered.{Lowered};
-ghost use Rattle.asl_lower.specs.Region.{InBody, CallsAt};
+ghost use Rattle.asl_lower.specs.OpenSections.{InBody, CallsAt};
 ghost use Rattle.asl_points_to.specs.Classes.{Classed};
 ghost use Rattle.asl_expression.specs.Expression.{Seen, pointed, base_cell, path_cell, cell_denoted};
 ghost use Rattle.asl_lock_expr.specs.ClassOf.{path_class, class_of, MayStore};

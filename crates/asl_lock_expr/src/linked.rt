@@ -2,7 +2,7 @@
 ghost use Rattle.std.specs.Prelude.{◌≡◌, ◌<◌, ◌≤◌, ◌⊎◌, ◌↔◌, ℕ, OnOk, IfOk, Some, length, slice_get};
 ghost use Rattle.std.specs.List.{flat_map};
 ghost use Rattle.asl_code.specs.declared.instr.Instr.{Instr as AnyInstr};
-ghost use Rattle.asl_lower.specs.Region.{InBody};
+ghost use Rattle.asl_lower.specs.OpenSections.{InBody};
 ghost use Rattle.asl_lock_expr.specs.Links.{view, IsOne, IsLinked, dereferenced};
 ghost use Rattle.asl_lock_expr.specs.Order.{AreInOrder};
 ghost use Rattle.asl_lock_expr.specs.Stores.{stores};

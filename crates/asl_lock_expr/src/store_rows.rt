@@ -1,6 +1,6 @@
 //! The functions that store to each class, and those that call each function.
 ghost use Rattle.std.specs.Prelude.{◌≡◌, ◌<◌, ◌≤◌, ◌⊎◌, ◌↔◌, ℕ, true, OnOk, IfOk, length};
-ghost use Rattle.asl_lower.specs.Region.{owner_of};
+ghost use Rattle.asl_lower.specs.OpenSections.{owner_of};
 ghost use Rattle.asl_lock_expr.specs.Stores.{stores};
 ghost use Rattle.asl_lock_expr.specs.Storing.{IsIn, row, stored_class, called, AreListed, ListsOneMore};
 

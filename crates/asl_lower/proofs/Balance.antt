@@ -7,7 +7,7 @@ use Rattle.asl_syntax.specs.Tree.{Value, IntegerValue, NullValue, LocalValue, Bi
 use Rattle.asl_lower.specs.Names.{Scope, register}
 use Rattle.asl_lower.specs.Place.{Place, next, entered, past_moves, past_value, past_stmt, past_block, past_else, past_function, past_functions}
 use Rattle.asl_lower.specs.Lowered.{Lowered, Has, operator_instr, AreMoved, IsLoweredValue, IsLoweredStmt, IsLoweredBlock, IsLoweredElse, IsLoweredFunction, AreLoweredFunctions}
-use Rattle.asl_lower.specs.Region.{without_innermost, open_behind, open_at}
+use Rattle.asl_lower.specs.OpenSections.{without_innermost, open_behind, open_at}
 
 -- the sections that are open before a place
 abbrev pub opened : Lowered → Place → List ℕ

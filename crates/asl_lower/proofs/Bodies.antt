@@ -6,7 +6,7 @@ use Rattle.asl_code.specs.declared.image.Function as entry
 use Rattle.asl_syntax.specs.Tree.{Function, Item, functions_of}
 use Rattle.asl_lower.specs.Place.{Place, origin, past_function, past_functions}
 use Rattle.asl_lower.specs.Lowered.{Lowered, IsLoweredFunction, AreLoweredFunctions, IsLowering, entry_of, end_of}
-use Rattle.asl_lower.specs.Region.{start_of, InBody}
+use Rattle.asl_lower.specs.OpenSections.{start_of, InBody}
 use Rattle.asl_lower.proofs.Grows.{Precedes, itself, joined, by_function, by_functions}
 use Rattle.asl_lower.proofs.Counts.{Counted, sum_more, function_counted}
 use Rattle.asl_lower.proofs.Balance.{opened, function_balance}

@@ -12,7 +12,7 @@ use Rattle.std.proofs.lemmas.List.{take-take, take_all}
 use Rattle.std.proofs.lemmas.List.Sums.{sum_by-take-le}
 use Rattle.asl_lower.specs.Place.{Place, origin, past_function, past_functions}
 use Rattle.asl_lower.specs.Lowered.{Lowered, IsLowering, AreLoweredFunctions, end_of, entry_of}
-use Rattle.asl_lower.specs.Region.{open_at, open_behind, start_of, returned, returned_by, InBody, FlowsTo}
+use Rattle.asl_lower.specs.OpenSections.{open_at, open_behind, start_of, returned, returned_by, InBody, FlowsTo}
 use Rattle.asl_lower.specs.Facts.{IsParted, IsNested, ReturnsLast}
 use Rattle.asl_lower.proofs.Grows.{Precedes, by_function}
 use Rattle.asl_lower.proofs.Counts.{sum_more}

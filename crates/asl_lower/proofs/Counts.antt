@@ -10,7 +10,7 @@ use Rattle.asl_syntax.specs.Tree.{Value, IntegerValue, NullValue, LocalValue, Bi
 use Rattle.asl_lower.specs.Names.{Scope, register}
 use Rattle.asl_lower.specs.Place.{Place, next, created, entered, past_moves, past_value, past_stmt, past_block, past_else, past_function, past_functions}
 use Rattle.asl_lower.specs.Lowered.{Lowered, Has, operator_instr, AreMoved, IsLoweredValue, IsLoweredStmt, IsLoweredBlock, IsLoweredElse, IsLoweredFunction, AreLoweredFunctions}
-use Rattle.asl_lower.specs.Region.{is_new, is_acquire, sites_before, sections_before}
+use Rattle.asl_lower.specs.OpenSections.{is_new, is_acquire, sites_before, sections_before}
 
 -- one element more
 pub sum_more : {X : Type 0} (f : X → ℕ) (xs : List X) (i : ℕ) (x : X) → slice_get xs i ≡ Some x → sum_by f (take (suc i) xs) ≡ sum_by f (take i xs) + f x

@@ -5,7 +5,7 @@ use Rattle.std.proofs.lemmas.List.{nil_from_length}
 use Rattle.std.proofs.lemmas.Option.{slice_get-get_or}
 use Rattle.asl_code.specs.declared.instr.Instr.{Instr}
 use Rattle.asl_code.specs.declared.instr.Instr.TheVariants as instr
-use Rattle.asl_lower.specs.Region.{open_at, open_behind, is_access}
+use Rattle.asl_lower.specs.OpenSections.{open_at, open_behind, is_access}
 use Rattle.asl_lower.specs.Reach.{depth_after, IsOutsideAccess}
 
 -- the depth counts the open sections

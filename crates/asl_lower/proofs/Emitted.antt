@@ -13,7 +13,7 @@ use Rattle.asl_lower.specs.declared.code_draft.CodeDraft.{CodeDraft}
 use Rattle.asl_lower.specs.Names.{function_names, number_of}
 use Rattle.asl_lower.specs.Place.{Place, origin, past_function, past_functions}
 use Rattle.asl_lower.specs.Lowered.{Lowered, IsLowering, entry_of}
-use Rattle.asl_lower.specs.Region.{IsBareAccess}
+use Rattle.asl_lower.specs.OpenSections.{IsBareAccess}
 use Rattle.asl_lower.specs.Layout.{functions_code, functions_sections, functions_table, lowering_of}
 use Rattle.asl_lower.specs.OutputView.{Adds, place_of}
 use Rattle.asl_lower.specs.Refused.{first_crowded}

@@ -6,7 +6,7 @@ use Rattle.asl_code.specs.declared.instr.Instr.{Instr}
 use Rattle.asl_code.specs.declared.instr.Instr.TheVariants as instr
 use Rattle.asl_lower.specs.declared.section.Section.{Section}
 use Rattle.asl_lower.specs.Lowered.{Lowered}
-use Rattle.asl_lower.specs.Region.{open_at, open_behind, without_innermost, is_among, release_of, InBody, InSection, FlowsTo}
+use Rattle.asl_lower.specs.OpenSections.{open_at, open_behind, without_innermost, is_among, release_of, InBody, InSection, FlowsTo}
 use Rattle.asl_lower.specs.Facts.{HasLayout}
 use Rattle.asl_lower.specs.Regions.{Region, Body, Inside, IsIn, IsEnd, outermost, AreDistinct}
 use Rattle.asl_lower.proofs.Owner.{from_mapped}

@@ -10,7 +10,7 @@ use Rattle.asl_syntax.specs.Tree.{Value, IntegerValue, NullValue, LocalValue, Bi
 use Rattle.asl_lower.specs.Names.{Scope, register, number_of}
 use Rattle.asl_lower.specs.Place.{Place, next, entered, past_moves, past_value, past_stmt, past_block, past_else}
 use Rattle.asl_lower.specs.Lowered.{Lowered, operator_instr, first_argument, section_of, AreMoved, IsLoweredValue, IsLoweredStmt, IsLoweredBlock, IsLoweredElse}
-use Rattle.asl_lower.specs.Region.{open_at, is_among, InSection}
+use Rattle.asl_lower.specs.OpenSections.{open_at, is_among, InSection}
 use Rattle.asl_lower.specs.Facts.{HasLayout}
 use Rattle.asl_lower.specs.Size.{stmt_size, block_size}
 use Rattle.asl_lower.specs.Outside.{or_else, value_access, stmt_access, block_access, else_access, value_callees, stmt_callees, block_callees}

@@ -5,7 +5,7 @@ use Rattle.std.proofs.lemmas.Bool.{cases_lt, or_left, or_right, eq-eqb, eqb-true
 use Rattle.asl_code.specs.declared.instr.Instr.{Instr}
 use Rattle.asl_code.specs.declared.instr.Instr.TheVariants as instr
 use Rattle.asl_lower.specs.Lowered.{Lowered}
-use Rattle.asl_lower.specs.Region.{open_at, is_access, is_among}
+use Rattle.asl_lower.specs.OpenSections.{open_at, is_access, is_among}
 use Rattle.asl_lower.specs.Reach.{Outside, IsCalled, IsOutsideAccess, IsFirstOutsideAccess}
 use Rattle.asl_lower.specs.Outside.{or_else}
 

@@ -4,7 +4,7 @@ use Rattle.std.proofs.lemmas.Bool.{cases_lt}
 use Rattle.std.proofs.lemmas.List.{take_all}
 use Rattle.asl_code.specs.declared.image.Function as entry
 use Rattle.asl_lower.specs.Lowered.{Lowered}
-use Rattle.asl_lower.specs.Region.{start_of, InBody, IsBare, IsBareAccess, IsFirstBareAccess}
+use Rattle.asl_lower.specs.OpenSections.{start_of, InBody, IsBare, IsBareAccess, IsFirstBareAccess}
 use Rattle.asl_lower.specs.Facts.{HasLayout}
 use Rattle.asl_lower.specs.Reach.{IsOutsideAccess, IsFirstOutsideAccess}
 

@@ -8,7 +8,7 @@ use Rattle.asl_code.specs.declared.instr.Instr.TheVariants as instr
 use Rattle.asl_syntax.specs.Tree.{Item}
 use Rattle.asl_lower.specs.declared.section.Section.{Section}
 use Rattle.asl_lower.specs.Lowered.{Lowered, IsLowering}
-use Rattle.asl_lower.specs.Region.{open_at, open_behind, without_innermost, InSection, IsSection}
+use Rattle.asl_lower.specs.OpenSections.{open_at, open_behind, without_innermost, InSection, IsSection}
 use Rattle.asl_lower.proofs.SectionSteps.{here, there, member_cases, no_member, section_there, Kind, Keeps, Opens, Closes, kind_at}
 
 -- the sections that `open_at` has at a pc are those that are open there by the table

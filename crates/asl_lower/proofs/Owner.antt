@@ -3,7 +3,7 @@ use Rattle.std.proofs.Common.{◌≡◌, ℕ, zero, suc, ◌+◌, ◌-◌, ◌<�
 use Rattle.std.proofs.lemmas.Bool.{cond-true, cond-false, lt-ltb, le-ltb}
 use Rattle.std.proofs.lemmas.List.Sums.{sum_by-cons}
 use Rattle.asl_code.specs.declared.image.Function as entry
-use Rattle.asl_lower.specs.Region.{start_of, owner_of}
+use Rattle.asl_lower.specs.OpenSections.{start_of, owner_of}
 
 -- a body begins where those before it end
 pub start_after : (f : entry.Function) (fs : List entry.Function) (n : ℕ) → start_of (f ∷ fs) (suc n) ≡ f.len + start_of fs n

@@ -7,7 +7,7 @@ use Rattle.asl_syntax.specs.Tree.{Function, Item}
 use Rattle.asl_lower.specs.Names.{Scope, scope_of, register}
 use Rattle.asl_lower.specs.Place.{Place, past_block}
 use Rattle.asl_lower.specs.Lowered.{Lowered}
-use Rattle.asl_lower.specs.Region.{open_at, open_behind, FlowsTo}
+use Rattle.asl_lower.specs.OpenSections.{open_at, open_behind, FlowsTo}
 use Rattle.asl_lower.proofs.Stands.{is_plain, Stands, Plainly, Makes, Invokes, Jumps, Tests, Enters, Leaves, block_stands}
 use Rattle.asl_lower.proofs.Bodies.{Body}
 

@@ -8,7 +8,7 @@ use Rattle.asl_code.specs.declared.instr.Instr.{Instr}
 use Rattle.asl_code.specs.declared.instr.Instr.TheVariants as instr
 use Rattle.asl_lower.specs.declared.section.Section.{Section}
 use Rattle.asl_lower.specs.Lowered.{Lowered}
-use Rattle.asl_lower.specs.Region.{open_at, start_of, IsOpenAt, InBody, InSection, IsSection}
+use Rattle.asl_lower.specs.OpenSections.{open_at, start_of, IsOpenAt, InBody, InSection, IsSection}
 use Rattle.asl_lower.specs.Operands.{HasCallee, HasOperand, HasOperands, AreOperandsThere}
 use Rattle.asl_lower.specs.Limits.{HasMain, KeepsLimits}
 use Rattle.asl_lower.specs.Facts.{IsParted, IsNested, HasSections, ReturnsLast, StaysInside, IsNumbered, HasLayout}

@@ -8,7 +8,7 @@ use Rattle.asl_code.specs.declared.image.Function as entry
 use Rattle.asl_code.specs.declared.instr.Instr.{Instr}
 use Rattle.asl_code.specs.declared.instr.Instr.TheVariants as instr
 use Rattle.asl_lower.specs.Lowered.{Lowered}
-use Rattle.asl_lower.specs.Region.{open_at, start_of, owner_of, InBody, CallsAt, IsBare, Main, CalledOutside, IsInner, CalledInside, CalledByInner}
+use Rattle.asl_lower.specs.OpenSections.{open_at, start_of, owner_of, InBody, CallsAt, IsBare, Main, CalledOutside, IsInner, CalledInside, CalledByInner}
 use Rattle.asl_lower.specs.Operands.{HasOperands}
 use Rattle.asl_lower.specs.Facts.{HasLayout}
 use Rattle.asl_lower.proofs.Counts.{sum_more}

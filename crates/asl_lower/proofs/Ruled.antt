@@ -15,7 +15,7 @@ use Rattle.asl_syntax.specs.Rules.{Names, Counts, with_declared, declared_in, na
 use Rattle.asl_lower.specs.Names.{Scope, register, global_number, has_name, number_of, function_names, registers_of, locals_of, scope_of}
 use Rattle.asl_lower.specs.Place.{Place, origin, past_function, past_functions}
 use Rattle.asl_lower.specs.Lowered.{Lowered, IsLoweredFunction, AreLoweredFunctions, IsLowering, entry_of}
-use Rattle.asl_lower.specs.Region.{start_of, InBody}
+use Rattle.asl_lower.specs.OpenSections.{start_of, InBody}
 use Rattle.asl_lower.specs.Operands.{HasOperands, AreOperandsThere}
 use Rattle.asl_lower.proofs.Grows.{Precedes, by_function}
 use Rattle.asl_lower.proofs.Bodies.{Begins, next_begins, begins}

@@ -11,7 +11,7 @@ use Rattle.asl_lower.specs.declared.section.Section.{Section}
 use Rattle.asl_lower.specs.Names.{Scope, scope_of, register}
 use Rattle.asl_lower.specs.Place.{Place}
 use Rattle.asl_lower.specs.Lowered.{Lowered, IsLowering}
-use Rattle.asl_lower.specs.Region.{open_at, open_behind, sites_before, sections_before, release_of, InSection, FlowsTo}
+use Rattle.asl_lower.specs.OpenSections.{open_at, open_behind, sites_before, sections_before, release_of, InSection, FlowsTo}
 use Rattle.asl_lower.specs.Facts.{HasSections, StaysInside, IsNumbered}
 use Rattle.asl_lower.proofs.Stands.{is_plain, Stands, Plainly, Makes, Invokes, Jumps, Tests, Enters, Leaves}
 use Rattle.asl_lower.proofs.Bodies.{body_of, in_body}

@@ -9,7 +9,7 @@ use Rattle.asl_syntax.specs.Tree.{Function, Item, functions_of}
 use Rattle.asl_lower.specs.Names.{scope_of, register}
 use Rattle.asl_lower.specs.Place.{Place, origin, past_function}
 use Rattle.asl_lower.specs.Lowered.{Lowered, IsLowering, end_of}
-use Rattle.asl_lower.specs.Region.{open_at, open_behind, is_among, InBody, IsSection}
+use Rattle.asl_lower.specs.OpenSections.{open_at, open_behind, is_among, InBody, IsSection}
 use Rattle.asl_lower.proofs.Grows.{Precedes, joined}
 use Rattle.asl_lower.proofs.Stands.{is_plain, Sectioned, Stands, Plainly, Makes, Invokes, Jumps, Tests, Enters, Leaves}
 use Rattle.asl_lower.proofs.Sections.{block_sectioned}

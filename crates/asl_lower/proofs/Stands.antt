@@ -11,7 +11,7 @@ use Rattle.asl_lower.specs.declared.section.Section.{Section}
 use Rattle.asl_lower.specs.Names.{Scope, register}
 use Rattle.asl_lower.specs.Place.{Place, next, entered, past_moves, past_value, past_stmt, past_block, past_else}
 use Rattle.asl_lower.specs.Lowered.{Lowered, operator_instr, else_target, section_of, AreMoved, IsLoweredValue, IsLoweredStmt, IsLoweredBlock, IsLoweredElse}
-use Rattle.asl_lower.specs.Region.{open_at, sites_before, sections_before}
+use Rattle.asl_lower.specs.OpenSections.{open_at, sites_before, sections_before}
 use Rattle.asl_lower.proofs.Grows.{Precedes, itself, joined, by_next, by_entered, by_stmt, by_block, by_else}
 use Rattle.asl_lower.proofs.Counts.{Counted, counted_next, counted_entered, stmt_counted, block_counted}
 use Rattle.asl_lower.proofs.Balance.{opened, opened_next, stmt_balance, block_balance, else_balance}

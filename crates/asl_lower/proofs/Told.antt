@@ -8,7 +8,7 @@ use Rattle.asl_code.specs.declared.image.Function as entry
 use Rattle.asl_code.specs.declared.instr.Instr.{Instr}
 use Rattle.asl_code.specs.declared.instr.Instr.TheVariants as instr
 use Rattle.asl_lower.specs.Lowered.{Lowered}
-use Rattle.asl_lower.specs.Region.{start_of, owner_of, returned, InBody, FlowsTo, successors}
+use Rattle.asl_lower.specs.OpenSections.{start_of, owner_of, returned, InBody, FlowsTo, successors}
 use Rattle.asl_lower.specs.Facts.{HasLayout}
 use Rattle.std.proofs.lemmas.Option.{slice_get_within, slice_get-get_or}
 use Rattle.asl_lower.proofs.Reaching.{body_within}

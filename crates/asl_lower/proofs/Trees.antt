@@ -7,7 +7,7 @@ use Rattle.asl_syntax.specs.View.{block_of}
 use Rattle.asl_lower.specs.Names.{function_names, scope_of, register}
 use Rattle.asl_lower.specs.Place.{Place, origin, past_block, past_function}
 use Rattle.asl_lower.specs.Lowered.{Lowered, IsLoweredFunction, AreLoweredFunctions, IsLowering, entry_of}
-use Rattle.asl_lower.specs.Region.{start_of}
+use Rattle.asl_lower.specs.OpenSections.{start_of}
 use Rattle.asl_lower.specs.Facts.{HasLayout}
 use Rattle.asl_lower.specs.Size.{block_size}
 use Rattle.asl_lower.specs.Reach.{Outside, IsOutsideAccess, IsFirstOutsideAccess}

@@ -6,7 +6,7 @@ use Rattle.asl_code.specs.declared.instr.Instr.{Instr}
 use Rattle.asl_code.specs.declared.instr.Instr.TheVariants as instr
 use Rattle.asl_lower.specs.declared.section.Section.{Section}
 use Rattle.asl_lower.specs.Lowered.{Lowered}
-use Rattle.asl_lower.specs.Region.{open_at, open_behind, is_among, sites_before, sections_before, start_of, owner_of, returned, acquire_of, release_of, InBody, InSection, IsSection, FlowsTo}
+use Rattle.asl_lower.specs.OpenSections.{open_at, open_behind, is_among, sites_before, sections_before, start_of, owner_of, returned, acquire_of, release_of, InBody, InSection, IsSection, FlowsTo}
 use Rattle.asl_lower.specs.Operands.{AreOperandsThere}
 use Rattle.asl_lower.specs.Limits.{HasMain, KeepsLimits}
 

@@ -6,7 +6,7 @@ use Rattle.asl_syntax.specs.Tree.{Item}
 use Rattle.asl_syntax.specs.Parsed.{IsParsed}
 use Rattle.asl_lower.specs.declared.code_draft.CodeDraft.{CodeDraft}
 use Rattle.asl_lower.specs.Lowered.{Lowered, IsLowering}
-use Rattle.asl_lower.specs.Region.{IsBareAccess}
+use Rattle.asl_lower.specs.OpenSections.{IsBareAccess}
 
 -- it is the lowering of a program that breaks no rule, with few registers, not too much code, and each access of a bare
 -- function in a section

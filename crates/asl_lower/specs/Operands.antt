@@ -6,7 +6,7 @@ use Rattle.asl_code.specs.Operands as operand
 use Rattle.asl_code.specs.declared.image.Function as entry
 use Rattle.asl_code.specs.declared.instr.Instr.{Instr}
 use Rattle.asl_lower.specs.Lowered.{Lowered}
-use Rattle.asl_lower.specs.Region.{InBody}
+use Rattle.asl_lower.specs.OpenSections.{InBody}
 
 -- the callee is there, and as many registers as it has parameters
 pub record HasCallee (l : Lowered) (registers first callee : ℕ) : Type 0 where

@@ -1,10 +1,10 @@
 -- Machinery of the proofs, not of the promise: the accesses and the calls of a program outside its sections, as
--- src/outside.rt finds them in the tree. What contracts promise are `IsBare` and `IsFirstBareAccess` of specs/Region.
+-- src/outside.rt finds them in the tree. What contracts promise are `IsBare` and `IsFirstBareAccess` of specs/OpenSections.
 use Rattle.std.specs.Prelude.{◌≡◌, ℕ, suc, ◌+◌, ◌<◌, ◌⊎◌, Bool, IsTrue, List, [], ◌∷◌, ◌++◌, length, Option, Some, None}
 use Rattle.asl_syntax.specs.Tree.{Value, LoadValue, CallValue, Statement, AssignStatement, StoreStatement, OutStatement, IfStatement, WhileStatement, AtomicStatement, Block, NoMore, Then}
 use Rattle.asl_lower.specs.Names.{number_of}
 use Rattle.asl_lower.specs.Size.{stmt_size, block_size}
-use Rattle.asl_lower.specs.Region.{is_among}
+use Rattle.asl_lower.specs.OpenSections.{is_among}
 use Rattle.asl_lower.specs.Reach.{IsMarked, KeepsMarks}
 
 -- the first, or else the second

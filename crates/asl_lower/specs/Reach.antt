@@ -1,12 +1,12 @@
 -- Machinery of the proofs, not of the promise: the marks of functions that calls lead to, as src/section_reach.rt makes them.
--- What contracts promise are `IsBare`, `IsInner` and `IsFirstBareAccess` of specs/Region.
+-- What contracts promise are `IsBare`, `IsInner` and `IsFirstBareAccess` of specs/OpenSections.
 use Rattle.std.specs.Prelude.{◌≡◌, ℕ, suc, ◌-◌, ◌<◌, ◌≤◌, Bool, true, false, IsTrue, List, [], ◌∷◌, length, Some, slice_get}
 use Rattle.asl_code.specs.declared.instr.Instr.{Instr}
 use Rattle.asl_code.specs.declared.instr.Instr.TheVariants as instr
 use Rattle.asl_lower.specs.declared.section_reach.Calls.{Calls}
 use Rattle.asl_lower.specs.declared.section_reach.Calls.TheVariants as calls
 use Rattle.asl_lower.specs.Lowered.{Lowered}
-use Rattle.asl_lower.specs.Region.{open_at, is_access, InBody, CallsAt}
+use Rattle.asl_lower.specs.OpenSections.{open_at, is_access, InBody, CallsAt}
 
 -- how many sections are open after an instruction, where so many are open before it
 abbrev pub depth_after : Instr → ℕ → ℕ

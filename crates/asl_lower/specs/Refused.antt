@@ -5,7 +5,7 @@ use Rattle.asl_lower.specs.declared.fault.LowerFault.{LowerFault}
 use Rattle.asl_lower.specs.declared.fault.LowerFault.TheVariants.{Registers, CodeSize, AccessOutsideSection, OutOfMemory}
 use Rattle.asl_lower.specs.Names.{registers_of}
 use Rattle.asl_lower.specs.Lowered.{Lowered, IsLowering, end_of}
-use Rattle.asl_lower.specs.Region.{IsBareAccess, IsFirstBareAccess}
+use Rattle.asl_lower.specs.OpenSections.{IsBareAccess, IsFirstBareAccess}
 
 -- the first function with more than 64 registers, where functions are numbered from this number on
 abbrev pub first_crowded : ℕ → List Function → Option ℕ

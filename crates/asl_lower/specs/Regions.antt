@@ -2,7 +2,7 @@
 use Rattle.std.specs.Prelude.{◌≡◌, ℕ, suc, ◌<◌, false, List, [], ◌∷◌, Option, Some, None, slice_get}
 use Rattle.asl_lower.specs.declared.section.Section.{Section}
 use Rattle.asl_lower.specs.Lowered.{Lowered}
-use Rattle.asl_lower.specs.Region.{is_among, start_of, release_of, InBody, IsInner}
+use Rattle.asl_lower.specs.OpenSections.{is_among, start_of, release_of, InBody, IsInner}
 
 -- the body of an inner function, or what is inside a section
 pub data Region : Type 0 where

@@ -29,7 +29,7 @@ pub struct CodeDraft {
 
 impl CodeDraft {
     ghost use Rattle.std.specs.Prelude.{◌≡◌, ◌≤◌, length};
-    ghost use Rattle.asl_lower.specs.Region.{start_of};
+    ghost use Rattle.asl_lower.specs.OpenSections.{start_of};
     ghost use Rattle.asl_lower.specs.Facts.{HasLayout};
     ghost use Rattle.asl_lower.specs.LegalLowering.{lowered_of};
 

@@ -5,7 +5,7 @@ ghost use Rattle.asl_lower.specs.declared.section.Section.{Section};
 ghost use Rattle.asl_syntax.specs.Tree.{Item};
 ghost use Rattle.asl_syntax.specs.Parsed.{IsParsed};
 ghost use Rattle.asl_lower.specs.Lowered.{Lowered, IsLowering};
-ghost use Rattle.asl_lower.specs.Region.{open_at, release_of, InBody, FlowsTo, CallsAt, IsBare, IsInner, is_access, IsBareAccess};
+ghost use Rattle.asl_lower.specs.OpenSections.{open_at, release_of, InBody, FlowsTo, CallsAt, IsBare, IsInner, is_access, IsBareAccess};
 ghost use Rattle.asl_lower.specs.Regions.{Region, Inside, IsIn, IsEnd, outermost, AreDistinct};
 ghost use Rattle.asl_lower.specs.LegalLowering.{IsLegalLowering};
 ghost use Rattle.asl_lower.specs.Limits.{HasMain, KeepsLimits};

@@ -6,7 +6,7 @@ ghost use Rattle.asl_syntax.specs.AstView.{tree_of};
 ghost use Rattle.asl_syntax.specs.Parsed.{IsParsed};
 ghost use Rattle.asl_syntax.specs.Tree.{globals_of, functions_of};
 ghost use Rattle.asl_lower.specs.Lowered.{IsLowering};
-ghost use Rattle.asl_lower.specs.Region.{IsBareAccess};
+ghost use Rattle.asl_lower.specs.OpenSections.{IsBareAccess};
 ghost use Rattle.asl_lower.specs.Refused.{HasRoom, IsRefusedLowering};
 
 use crate::code_draft::make_draft;

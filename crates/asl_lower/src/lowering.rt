@@ -3,7 +3,7 @@
 ghost use Rattle.std.specs.Prelude.{◌≡◌, ℕ, ◌<◌, ◌↔◌, true, Some, length, slice_get};
 ghost use Rattle.std.specs.List.{Contains};
 ghost use Rattle.asl_code.specs.declared.instr.Instr.{Instr};
-ghost use Rattle.asl_lower.specs.Region.{start_of, owner_of, returned, InBody, IsInner, FlowsTo, successors};
+ghost use Rattle.asl_lower.specs.OpenSections.{start_of, owner_of, returned, InBody, IsInner, FlowsTo, successors};
 ghost use Rattle.asl_lower.specs.LegalLowering.{IsLegalLowering, lowered_of};
 
 use crate::code_draft::CodeDraft;

@@ -4,7 +4,7 @@ ghost use Rattle.std.specs.Prelude.{◌≡◌, ℕ, ◌+◌, ◌≤◌, ◌↔�
 ghost use Rattle.asl_syntax.specs.View.{item_of, value_of, statement_of, block_of, function_of};
 ghost use Rattle.asl_syntax.specs.Tree.{functions_of};
 ghost use Rattle.asl_lower.specs.Names.{function_names, number_of};
-ghost use Rattle.asl_lower.specs.Region.{IsBare, IsBareAccess, IsFirstBareAccess};
+ghost use Rattle.asl_lower.specs.OpenSections.{IsBare, IsBareAccess, IsFirstBareAccess};
 ghost use Rattle.asl_lower.specs.Facts.{HasLayout};
 ghost use Rattle.asl_lower.specs.Layout.{lowering_of};
 ghost use Rattle.asl_lower.specs.Size.{value_size, stmt_size, block_size, else_size};

@@ -1,7 +1,7 @@
 //! Which functions calls lead to from inside sections.
 
 ghost use Rattle.std.specs.Prelude.{◌≡◌, ℕ, ◌+◌, ◌<◌, ◌≤◌, ◌⊎◌, ◌^◌, ◌↔◌, [], true, false, Some, slice_get, vec_len, IsTrue, MatchOption};
-ghost use Rattle.asl_lower.specs.Region.{open_at, IsInner};
+ghost use Rattle.asl_lower.specs.OpenSections.{open_at, IsInner};
 ghost use Rattle.asl_lower.specs.Facts.{HasLayout};
 ghost use Rattle.asl_lower.specs.LegalLowering.{lowered_of};
 ghost use Rattle.asl_lower.specs.Reach.{depth_after, where_of, AreAtDepth, IsCalled, IsMarked, KeepsMarks, AreFollowed, Reached};

@@ -13,7 +13,7 @@ use Rattle.asl_syntax.specs.Tree.{Item, globals_of, functions_of}
 use Rattle.asl_syntax.proofs.Plain.{one_tree}
 use Rattle.asl_lower.specs.Names.{locals_of}
 use Rattle.asl_lower.specs.Lowered.{Lowered, IsLowering}
-use Rattle.asl_lower.specs.Region.{is_new}
+use Rattle.asl_lower.specs.OpenSections.{is_new}
 use Rattle.asl_lower.specs.Facts.{IsNumbered}
 use Rattle.asl_lower.proofs.Laid.{one_lowering}
 use Rattle.asl_lower.proofs.SectionFacts.{lowering_numbered}

@@ -4,7 +4,7 @@ use Rattle.std.specs.Option.{option_map_or}
 use Rattle.asl_code.specs.declared.instr.Instr.TheVariants as instr
 use Rattle.asl_lower.specs.declared.section.Section.{Section}
 use Rattle.asl_lower.specs.Lowered.{Lowered}
-use Rattle.asl_lower.specs.Region.{owner_of}
+use Rattle.asl_lower.specs.OpenSections.{owner_of}
 use Rattle.asl_map.specs.declared.text_piece.Area.{Area}
 use Rattle.asl_map.specs.declared.text_piece.Piece.{Piece}
 

@@ -9,7 +9,7 @@ use Rattle.asl_syntax.specs.declared.fault.SyntaxFault.TheVariants as syntax_fau
 use Rattle.asl_lower.specs.Names.{locals_of}
 use Rattle.asl_lower.specs.Place.{origin}
 use Rattle.asl_lower.specs.Lowered.{Lowered, IsLowering}
-use Rattle.asl_lower.specs.Region.{IsBareAccess}
+use Rattle.asl_lower.specs.OpenSections.{IsBareAccess}
 use Rattle.asl_lower.specs.Refused as lower
 use Rattle.asl_lower.specs.declared.fault.LowerFault.TheVariants as lower_fault
 use Rattle.asl_points_to.specs.Classes.{Classed, AreClasses}

@@ -1,7 +1,7 @@
 -- Which functions a program may ever run (docs/SOURCE.md, "The map").
 use Rattle.std.specs.Prelude.{ℕ}
 use Rattle.asl_lower.specs.Lowered.{Lowered}
-use Rattle.asl_lower.specs.Region.{InBody, CallsAt}
+use Rattle.asl_lower.specs.OpenSections.{InBody, CallsAt}
 
 -- `main`, and each function that such a function calls
 pub data IsReached (l : Lowered) : ℕ → Type 0 where

@@ -1,7 +1,7 @@
 //! Where sections and sites stand.
 
 ghost use Rattle.std.specs.Prelude.{◌≡◌, map, IfOk};
-ghost use Rattle.asl_lower.specs.Region.{is_new};
+ghost use Rattle.asl_lower.specs.OpenSections.{is_new};
 ghost use Rattle.asl_map.specs.Areas.{from_at, to_at, section_area, AreSites};
 
 use crate::text_piece::{Area, Piece};

@@ -4,7 +4,7 @@ use Rattle.std.specs.List.{All}
 use Rattle.asl_code.specs.declared.instr.Instr.{Instr}
 use Rattle.asl_code.specs.declared.instr.Instr.TheVariants as instr
 use Rattle.asl_lower.specs.Lowered.{Lowered}
-use Rattle.asl_lower.specs.Region.{InBody}
+use Rattle.asl_lower.specs.OpenSections.{InBody}
 use Rattle.asl_points_to.specs.declared.value_flow.Place.{Place}
 use Rattle.asl_points_to.specs.declared.value_flow.Flow.{Flow}
 use Rattle.asl_points_to.specs.declared.value_flow.Flow.TheVariants as flow

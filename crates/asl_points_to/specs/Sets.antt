@@ -1,5 +1,5 @@
--- Machinery of the proofs, not of the promise: disjoint sets as src/sets.rt keeps them: each member has a
--- parent, which is itself or below it, and the set's first member is its own parent.
+-- Disjoint sets as src/sets.rt keeps them: each member has a parent, which is itself or below it, and the set's first member is its
+-- own parent.
 use Rattle.std.specs.Prelude.{ℕ, zero, suc, ◌<◌, ◌≤◌, ◌==◌, if◌then◌else◌, List, length, map, slice_index}
 use Rattle.std.specs.List.{range_with_len}
 

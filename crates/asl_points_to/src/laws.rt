@@ -3,7 +3,7 @@ ghost use Rattle.std.specs.Prelude.{◌≡◌, ◌+◌, ◌<◌, ℕ, Some, slic
 ghost use Rattle.asl_code.specs.declared.image.Function.{Function as FunctionValue};
 ghost use Rattle.asl_code.specs.declared.instr.Instr.TheVariants.{Call, Return};
 ghost use Rattle.asl_lower.specs.Lowered.{Lowered};
-ghost use Rattle.asl_lower.specs.Region.{InBody};
+ghost use Rattle.asl_lower.specs.OpenSections.{InBody};
 ghost use Rattle.asl_points_to.specs.Classes.{Classed, to, inside, members, Gives, IsLegal, IsLeast, IsFinest, AreClasses};
 
 /// A program has one numbering of its least legal classes, at the most; `classes` answers it, unless it has more than 1,024

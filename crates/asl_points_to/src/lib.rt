@@ -16,3 +16,4 @@ pub use class_table::Classes;
 pub use fault::ClassesFault;
 pub use laws::{calls_pass_classes, classes_are_one, classes_are_there, least_classes_are_finest};
 pub use points_to::classes;
+pub use sets::DisjointSets;

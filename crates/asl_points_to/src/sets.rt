@@ -10,7 +10,7 @@ use std::marker::Model;
 /// Disjoint sets of members: for each member the first of its set. It is found by going from parent to parent, and each way
 /// that was gone is halved.
 #[derive(Drop)]
-pub(crate) struct DisjointSets {
+pub struct DisjointSets {
     parents: Vec<u32>,
 }
 
@@ -27,7 +27,7 @@ impl Model for DisjointSets {
 
 impl DisjointSets {
     /// So many members, each in a set of its own.
-    pub(crate) fn new(alloc: Global, members: u32) -> Result<DisjointSets, AllocError>
+    pub fn new(alloc: Global, members: u32) -> Result<DisjointSets, AllocError>
         ensures { IfOk result (λ sets. sets ≡ range_with_len 0 members) }
     {
         let mut parents = Vec::with_capacity(alloc, members as usize)?;
@@ -38,7 +38,7 @@ impl DisjointSets {
     }
 
     /// The first member of the set of a member.
-    pub(crate) fn first(&mut self, member: u32) -> u32
+    pub fn first(&mut self, member: u32) -> u32
         requires { member < length self.old }
         ensures value { result ≡ slice_index self.old member }
         ensures own { slice_index self.old result ≡ result }
@@ -58,7 +58,7 @@ impl DisjointSets {
     }
 
     /// Joins the set of the first member `gone` to that of the first member `kept`.
-    pub(crate) fn join(&mut self, kept: u32, gone: u32)
+    pub fn join(&mut self, kept: u32, gone: u32)
         requires below { kept < gone }
         requires there { gone < length self.old }
         requires kept_first { slice_index self.old kept ≡ kept }

@@ -1,7 +1,7 @@
 //! The flows of a program: what classes owe to each instruction.
 
 ghost use Rattle.std.specs.Prelude.{◌≡◌, ◌+◌, ◌-◌, ◌<◌, ◌++◌, ℕ, IfOk, length, slice_get};
-ghost use Rattle.asl_lower.specs.Region.{returned, returned_by};
+ghost use Rattle.asl_lower.specs.OpenSections.{returned, returned_by};
 ghost use Rattle.asl_points_to.specs.Flows.{plain_flow, call_flows, Stands, AddsFlows, AreFlows};
 
 use crate::value_flow::{Flow, Place};

@@ -16,7 +16,7 @@ use Rattle.asl_code.specs.declared.lock.Lock.TheVariants as lock
 use Rattle.asl_code.specs.declared.path.Op.{Op}
 use Rattle.asl_code.specs.declared.instr.Instr.TheVariants as instr
 use Rattle.asl_lower.specs.Lowered.{Lowered}
-use Rattle.asl_lower.specs.Region.{open_at, start_of}
+use Rattle.asl_lower.specs.OpenSections.{open_at, start_of}
 use Rattle.asl_lower.specs.Regions.{Region, Body, Inside, IsIn, outermost}
 use Rattle.asl_points_to.specs.Classes.{Classed}
 use Rattle.asl_expression.specs.Expression.{pointed, path_cell, base_cell}

@@ -7,7 +7,7 @@ use Rattle.asl_code.specs.declared.image.Function as entry
 use Rattle.asl_code.specs.declared.instr.Instr.{Instr}
 use Rattle.asl_code.specs.declared.instr.Instr.TheVariants as instr
 use Rattle.asl_lower.specs.Lowered.{Lowered}
-use Rattle.asl_lower.specs.Region.{open_at, open_behind, without_innermost, is_acquire, CalledOutside, CalledInside, CalledByInner, InBody, CallsAt, FlowsTo, start_of, IsBareAccess, is_access}
+use Rattle.asl_lower.specs.OpenSections.{open_at, open_behind, without_innermost, is_acquire, CalledOutside, CalledInside, CalledByInner, InBody, CallsAt, FlowsTo, start_of, IsBareAccess, is_access}
 use Rattle.asl_lower.specs.Facts.{IsNested}
 use Rattle.asl_machine.specs.State.{Frame, Activity}
 use Rattle.asl_machine.specs.Step.{placed_at, going_on, returned}

@@ -6,7 +6,7 @@ use Rattle.asl_code.specs.declared.value.Value.TheVariants.{Addr}
 use Rattle.asl_code.specs.declared.instr.Instr.{Instr}
 use Rattle.asl_code.specs.declared.instr.Instr.TheVariants as instr
 use Rattle.asl_lower.specs.Lowered.{Lowered}
-use Rattle.asl_lower.specs.Region.{open_behind, FlowsTo, start_of}
+use Rattle.asl_lower.specs.OpenSections.{open_behind, FlowsTo, start_of}
 use Rattle.asl_lower.specs.Facts.{IsNested}
 use Rattle.asl_points_to.specs.Classes.{Classed}
 use Rattle.asl_lock_forest.specs.Holding.{Holding}

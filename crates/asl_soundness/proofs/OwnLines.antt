@@ -17,7 +17,7 @@ use Rattle.asl_code.proofs.Versions.{fresh_by_newest}
 use Rattle.asl_mode_lanes.proofs.ModeLaws.{at_most_refl}
 use Rattle.asl_lock_forest.specs.Holding.{Holding, held, grant, release}
 use Rattle.asl_lower.specs.Lowered.{Lowered}
-use Rattle.asl_lower.specs.Region.{is_acquire, FlowsTo, start_of}
+use Rattle.asl_lower.specs.OpenSections.{is_acquire, FlowsTo, start_of}
 use Rattle.asl_points_to.specs.Classes.{Classed}
 use Rattle.asl_expression.specs.Expression.{pointed}
 use Rattle.asl_lock_expr.specs.ClassOf.{Itself}

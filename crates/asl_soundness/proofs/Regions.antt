@@ -6,7 +6,7 @@ use Rattle.asl_code.specs.declared.instr.Instr.{Instr}
 use Rattle.asl_code.specs.declared.instr.Instr.TheVariants as instr
 use Rattle.asl_lower.specs.declared.section.Section.{Section}
 use Rattle.asl_lower.specs.Lowered.{Lowered}
-use Rattle.asl_lower.specs.Region.{open_at, release_of, InBody, FlowsTo}
+use Rattle.asl_lower.specs.OpenSections.{open_at, release_of, InBody, FlowsTo}
 use Rattle.asl_lower.specs.Regions.{Region, Body, Inside, IsIn, outermost}
 use Rattle.asl_lower.specs.Facts.{HasLayout}
 use Rattle.asl_lower.proofs.Inside.{outermost_inside, outermost_stays, outermost_left, end_stands}

@@ -12,7 +12,7 @@ use Rattle.asl_code.specs.declared.lock.Lock.TheVariants as lock
 use Rattle.asl_code.specs.declared.instr.Instr.{Instr}
 use Rattle.asl_code.specs.declared.instr.Instr.TheVariants as instr
 use Rattle.asl_lower.specs.Lowered.{Lowered}
-use Rattle.asl_lower.specs.Region.{open_at, open_behind, is_access, is_acquire, FlowsTo}
+use Rattle.asl_lower.specs.OpenSections.{open_at, open_behind, is_access, is_acquire, FlowsTo}
 use Rattle.asl_points_to.specs.Classes.{Classed}
 use Rattle.asl_expression.specs.Expression.{pointed}
 use Rattle.asl_lock_expr.specs.Links.{IsOne, on, settle, settled, accesses}

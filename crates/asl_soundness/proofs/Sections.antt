@@ -13,7 +13,7 @@ use Rattle.asl_code.specs.declared.instr.Instr.TheVariants as instr
 use Rattle.asl_lock_forest.specs.Holding.{grant}
 use Rattle.asl_lower.specs.declared.section.Section.{Section}
 use Rattle.asl_lower.specs.Lowered.{Lowered}
-use Rattle.asl_lower.specs.Region.{open_at, open_behind, is_acquire, InBody, FlowsTo}
+use Rattle.asl_lower.specs.OpenSections.{open_at, open_behind, is_acquire, InBody, FlowsTo}
 use Rattle.asl_lower.specs.Regions.{Body, Inside, outermost}
 use Rattle.asl_lower.specs.Facts.{HasLayout}
 use Rattle.asl_lower.proofs.Layouts.{kept_layout}

@@ -9,7 +9,7 @@ use Rattle.asl_code.specs.declared.instr.Instr.TheVariants as instr
 use Rattle.asl_code.specs.Fits.{LiesIn}
 use Rattle.asl_code.specs.declared.value.Value.TheVariants.{Addr}
 use Rattle.asl_lower.specs.Lowered.{Lowered}
-use Rattle.asl_lower.specs.Region.{InBody, start_of}
+use Rattle.asl_lower.specs.OpenSections.{InBody, start_of}
 use Rattle.asl_points_to.specs.Classes.{Classed}
 use Rattle.asl_machine.specs.State.{State, class_of}
 use Rattle.asl_machine.specs.Access.{Points}

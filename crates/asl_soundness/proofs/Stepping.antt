@@ -8,7 +8,7 @@ use Rattle.asl_code.specs.declared.instr.Instr.{Instr}
 use Rattle.asl_code.specs.declared.instr.Instr.TheVariants as instr
 use Rattle.asl_code.specs.Fits.{FitsInstr}
 use Rattle.asl_lower.specs.Lowered.{Lowered}
-use Rattle.asl_lower.specs.Region.{InBody}
+use Rattle.asl_lower.specs.OpenSections.{InBody}
 use Rattle.asl_lower.specs.Facts.{HasLayout}
 use Rattle.asl_points_to.specs.Classes.{Classed, IsLegalAt}
 use Rattle.asl_machine.specs.declared.reply.Reply.{Reply}

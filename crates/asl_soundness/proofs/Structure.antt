@@ -7,7 +7,7 @@ use Rattle.asl_code.specs.declared.value.Value.TheVariants.{Int}
 use Rattle.asl_code.specs.declared.instr.Instr.{Instr}
 use Rattle.asl_code.specs.declared.instr.Instr.TheVariants as instr
 use Rattle.asl_lower.specs.Lowered.{Lowered}
-use Rattle.asl_lower.specs.Region.{open_at, start_of as body_start, IsBare, Main}
+use Rattle.asl_lower.specs.OpenSections.{open_at, start_of as body_start, IsBare, Main}
 use Rattle.asl_lower.specs.Facts.{HasLayout}
 use Rattle.asl_points_to.specs.Classes.{Classed, to, inside}
 use Rattle.asl_expression.specs.Expression.{cell_of}

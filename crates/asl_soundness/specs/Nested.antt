@@ -3,7 +3,7 @@
 use Rattle.std.specs.Prelude.{◌≡◌, ℕ, ◌+◌, Bool, true, false, ◌||◌, List, [], ◌∷◌, length, Option, Some, option_map, if◌then◌else◌}
 use Rattle.asl_machine.specs.State.{Frame, Activity, State, activity_at}
 use Rattle.asl_lower.specs.Lowered.{Lowered}
-use Rattle.asl_lower.specs.Region.{open_at, IsBare, IsInner}
+use Rattle.asl_lower.specs.OpenSections.{open_at, IsBare, IsInner}
 use Rattle.asl_lower.specs.Regions.{Region, Body, Inside, outermost}
 
 -- whether one of the sections is open

@@ -4,7 +4,7 @@ ghost use Rattle.std.specs.Prelude.{◌≡◌, ◌≢◌, ◌<◌, ℕ, IsTrue, 
 ghost use Rattle.asl_code.specs.declared.image.Image.{Image};
 ghost use Rattle.asl_code.specs.declared.instr.Instr.{Instr};
 ghost use Rattle.asl_lower.specs.Lowered.{Lowered};
-ghost use Rattle.asl_lower.specs.Region.{is_access};
+ghost use Rattle.asl_lower.specs.OpenSections.{is_access};
 ghost use Rattle.asl_lower.specs.LegalLowering.{IsLegalLowering};
 ghost use Rattle.asl_points_to.specs.Classes.{Classed};
 ghost use Rattle.asl_machine.specs.declared.fault.Fault.TheVariants.{NoSection, Open};

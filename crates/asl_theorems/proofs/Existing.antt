@@ -8,7 +8,7 @@ use Rattle.asl_syntax.specs.Parsed.{Parses}
 use Rattle.asl_lower.specs.declared.section.Section.{Section}
 use Rattle.asl_lower.specs.Lowered.{Lowered, IsLowering, end_of}
 use Rattle.asl_lower.specs.Refused.{first_crowded, HasRoom, HasAccessesInside}
-use Rattle.asl_lower.specs.Region.{IsBareAccess}
+use Rattle.asl_lower.specs.OpenSections.{IsBareAccess}
 use Rattle.asl_lower.specs.Regions.{Region, Body, Inside}
 use Rattle.asl_lower.specs.Layout.{lowering_of}
 use Rattle.asl_lower.proofs.Laid.{lowering_of_is_lowering, one_lowering}

@@ -61,7 +61,7 @@ pub(crate) fn ordered(alloc: Global, listed: &Listed) -> Result<Vec<&Need>, Allo
     Ok(needs)
 }
 
-/// Whether a step is that of an argument, which is reported with the instruction that sets the argument's register.
+/// Whether a step is that of an argument, which is told with the instruction that sets the argument's register.
 pub(crate) fn is_argument(step: &Step) -> bool {
     match (step.why, &step.lock) {
         (Why::Entered, Lock::Expr(expr, _)) => match expr.base {

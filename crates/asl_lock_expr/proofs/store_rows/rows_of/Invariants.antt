@@ -1,5 +1,5 @@
 use Rattle.std.proofs.Common.{◌≡◌, ◌≤◌, length}
-use Rattle.asl_lower.specs.Region.{start_of}
+use Rattle.asl_lower.specs.OpenSections.{start_of}
 use Rattle.asl_lock_expr.specs.Storing.{stored_class, called, AreListed}
 use Rattle.asl_lock_expr.proofs.store_rows.rows_of.Given as goal
 

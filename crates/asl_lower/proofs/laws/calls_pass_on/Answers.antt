@@ -1,4 +1,4 @@
-use Rattle.asl_lower.specs.Region.{CalledOutside, CalledInside, CalledByInner}
+use Rattle.asl_lower.specs.OpenSections.{CalledOutside, CalledInside, CalledByInner}
 use Rattle.asl_lower.proofs.laws.calls_pass_on.Goals as goal
 
 pub returns-clause-outside : goal.returns-clause-outside

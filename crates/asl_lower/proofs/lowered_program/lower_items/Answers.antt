@@ -5,7 +5,7 @@ use Rattle.std.specs.Result.{IsErrAnd}
 use Rattle.asl_lower.specs.declared.fault.LowerFault.{LowerFault}
 use Rattle.asl_lower.specs.declared.fault.LowerFault.TheVariants.{OutOfMemory}
 use Rattle.asl_lower.specs.Lowered.{Lowered, IsLowering}
-use Rattle.asl_lower.specs.Region.{IsBareAccess}
+use Rattle.asl_lower.specs.OpenSections.{IsBareAccess}
 use Rattle.asl_lower.specs.Layout.{lowering_of}
 use Rattle.asl_lower.specs.Refused.{IsRefusedLowering, first_crowded}
 use Rattle.asl_lower.specs.LegalLowering.{lowered_of}

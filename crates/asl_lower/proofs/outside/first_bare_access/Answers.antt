@@ -8,7 +8,7 @@ use Rattle.asl_syntax.specs.declared.tree.Statement as tree
 use Rattle.asl_syntax.specs.Tree.{Function, Item, functions_of}
 use Rattle.asl_syntax.specs.View.{item_of, function_of, block_of}
 use Rattle.asl_lower.specs.Lowered.{Lowered}
-use Rattle.asl_lower.specs.Region.{start_of, IsBare}
+use Rattle.asl_lower.specs.OpenSections.{start_of, IsBare}
 use Rattle.asl_lower.specs.Facts.{HasLayout}
 use Rattle.asl_lower.specs.Size.{block_size}
 use Rattle.asl_lower.specs.Layout.{lowering_of}

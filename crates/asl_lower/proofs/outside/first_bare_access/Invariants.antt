@@ -3,7 +3,7 @@ use Rattle.std.proofs.Common.{◌≡◌, ◌+◌, ℕ, length, map, drop, slice_
 use Rattle.asl_syntax.specs.View.{item_of}
 use Rattle.asl_syntax.specs.Tree.{functions_of}
 use Rattle.asl_lower.specs.Layout.{lowering_of}
-use Rattle.asl_lower.specs.Region.{start_of}
+use Rattle.asl_lower.specs.OpenSections.{start_of}
 use Rattle.asl_lower.proofs.Lowest.{NoneBefore}
 use Rattle.asl_lower.proofs.outside.first_bare_access.Given as goal
 

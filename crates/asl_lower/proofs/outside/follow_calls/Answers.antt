@@ -3,7 +3,7 @@ use Rattle.asl_syntax.specs.View.{item_of, function_of, block_of}
 use Rattle.asl_syntax.specs.Tree.{functions_of}
 use Rattle.asl_syntax.specs.declared.tree.Statement as tree
 use Rattle.asl_lower.specs.Names.{function_names}
-use Rattle.asl_lower.specs.Region.{start_of}
+use Rattle.asl_lower.specs.OpenSections.{start_of}
 use Rattle.asl_lower.specs.Layout.{lowering_of}
 use Rattle.asl_lower.specs.Reach.{Outside}
 use Rattle.asl_lower.specs.Outside.{block_callees, MarksThese}

@@ -1,5 +1,5 @@
 use Rattle.std.proofs.Common.{◌≡◌, ◌+◌, ◌<◌, true, length, slice_set, refl, ap, ◌∙◌, arith}
-use Rattle.asl_lower.specs.Region.{open_at}
+use Rattle.asl_lower.specs.OpenSections.{open_at}
 use Rattle.asl_lower.specs.LegalLowering.{lowered_of}
 use Rattle.asl_lower.specs.Reach.{where_of}
 use Rattle.asl_lower.proofs.Marks.{set_fewer}

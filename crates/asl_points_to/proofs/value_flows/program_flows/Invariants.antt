@@ -1,6 +1,6 @@
 -- the instructions so far
 use Rattle.std.proofs.Common.{◌≡◌}
-use Rattle.asl_lower.specs.Region.{start_of}
+use Rattle.asl_lower.specs.OpenSections.{start_of}
 use Rattle.asl_points_to.specs.Flows.{AreFlows}
 use Rattle.asl_points_to.proofs.value_flows.program_flows.Given as goal
 

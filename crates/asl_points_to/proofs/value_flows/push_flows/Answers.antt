@@ -2,7 +2,7 @@ use Rattle.std.proofs.Common.{◌≡◌, ℕ, List, ◌++◌, length, Ok, Err, R
 use Rattle.asl_code.specs.declared.instr.Instr.{Instr}
 use Rattle.asl_points_to.specs.declared.value_flow.Flow.{Flow}
 use Rattle.std.proofs.lemmas.Option.{slice_get_within, get_or_from_slice_get}
-use Rattle.asl_lower.specs.Region.{returned}
+use Rattle.asl_lower.specs.OpenSections.{returned}
 use Rattle.asl_points_to.specs.Flows.{AddsFlows, plain_flow, call_flows}
 use Rattle.asl_points_to.proofs.Owed.{adds_one, adds_none, adds_call}
 use Rattle.asl_points_to.proofs.BodyFacts.{facts, called, is_plain}

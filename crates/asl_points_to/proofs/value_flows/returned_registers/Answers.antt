@@ -1,6 +1,6 @@
 use Rattle.std.proofs.Common.{◌≡◌, ◌+◌, ℕ, List, ◌<◌, Some, length, slice_get, sym, ap, ◌∙◌, subst, arith}
 use Rattle.std.proofs.lemmas.List.{length_push}
-use Rattle.asl_lower.specs.Region.{returned}
+use Rattle.asl_lower.specs.OpenSections.{returned}
 use Rattle.asl_points_to.proofs.BodyFacts.{body_at, returned_at, registers_more}
 use Rattle.asl_points_to.proofs.value_flows.returned_registers.Goals as goal
 

@@ -1,6 +1,6 @@
 -- the functions so far
 use Rattle.std.proofs.Common.{◌≡◌, ◌<◌, ℕ, Some, length, slice_get}
-use Rattle.asl_lower.specs.Region.{start_of, returned}
+use Rattle.asl_lower.specs.OpenSections.{start_of, returned}
 use Rattle.asl_points_to.proofs.value_flows.returned_registers.Given as goal
 
 abbrev pub invariant-loop-function : goal.invariant-loop-function

@@ -1,5 +1,5 @@
 use Rattle.std.proofs.Common.{◌≡◌, ◌<◌, ℕ, length, ap, arith}
-use Rattle.asl_lower.specs.Region.{owner_of}
+use Rattle.asl_lower.specs.OpenSections.{owner_of}
 use Rattle.asl_lock_expr.proofs.Storings.{instr_read}
 use Rattle.asl_lock_expr.proofs.store_rows.StoreRows.add_body.Goals as goal
 

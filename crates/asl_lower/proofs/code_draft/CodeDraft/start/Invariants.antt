@@ -1,6 +1,6 @@
 -- the length of the bodies so far
 use Rattle.std.proofs.Common.{◌≡◌}
-use Rattle.asl_lower.specs.Region.{start_of}
+use Rattle.asl_lower.specs.OpenSections.{start_of}
 use Rattle.asl_lower.proofs.code_draft.CodeDraft.start.Given as goal
 
 abbrev pub invariant-loop-function : goal.invariant-loop-function

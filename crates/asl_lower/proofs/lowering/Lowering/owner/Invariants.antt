@@ -1,6 +1,6 @@
 -- the bodies that were passed
 use Rattle.std.proofs.Common.{◌≡◌, ◌+◌, drop}
-use Rattle.asl_lower.specs.Region.{owner_of}
+use Rattle.asl_lower.specs.OpenSections.{owner_of}
 use Rattle.asl_lower.proofs.lowering.Lowering.owner.Given as goal
 
 abbrev pub invariant-loop-function : goal.invariant-loop-function

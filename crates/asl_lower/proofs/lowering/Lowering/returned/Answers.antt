@@ -3,7 +3,7 @@ use Rattle.asl_code.specs.declared.image.Function as entry
 use Rattle.asl_code.specs.declared.instr.Instr.{Instr}
 use Rattle.asl_code.specs.declared.instr.Instr.TheVariants as instr
 use Rattle.asl_lower.specs.Lowered.{Lowered}
-use Rattle.asl_lower.specs.Region.{start_of, returned}
+use Rattle.asl_lower.specs.OpenSections.{start_of, returned}
 use Rattle.asl_lower.specs.Facts.{HasLayout}
 use Rattle.asl_lower.specs.LegalLowering.{lowered_of}
 use Rattle.asl_lower.proofs.Layouts.{kept_layout}

@@ -2,7 +2,7 @@ use Rattle.std.proofs.Common.{◌≡◌, ℕ, ◌<◌, List, Some, length, slice
 use Rattle.std.specs.List.{Contains}
 use Rattle.asl_code.specs.declared.instr.Instr.{Instr}
 use Rattle.asl_lower.specs.Lowered.{Lowered}
-use Rattle.asl_lower.specs.Region.{successors}
+use Rattle.asl_lower.specs.OpenSections.{successors}
 use Rattle.asl_lower.specs.LegalLowering.{lowered_of}
 use Rattle.asl_lower.proofs.Reaching.{read_at}
 use Rattle.asl_lower.proofs.Told.{listed_goes, goes_listed}

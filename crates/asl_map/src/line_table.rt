@@ -1,6 +1,6 @@
 //! The lines of a text.
 ghost use Rattle.std.specs.Prelude.{◌≡◌, ◌+◌, ◌^◌, ◌<◌, IfOk};
-ghost use Rattle.asl_lists.specs.Places.{line_after, lines_from};
+ghost use Rattle.asl_map.specs.Lines.{line_after, lines_from};
 
 use std::alloc::{AllocError, Global};
 
