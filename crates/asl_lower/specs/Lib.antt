@@ -1,7 +1,7 @@
 pub mod Names
 pub mod Place
 pub mod Lowered
-pub mod Region
+pub mod OpenSections
 pub mod Refused
 pub mod LegalLowering
 pub mod Operands
