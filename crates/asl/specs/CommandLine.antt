@@ -6,7 +6,7 @@ use Rattle.std.specs.declared.env.FillError.TheVariants.{NotPresent, TooLong}
 use Rattle.asl.specs.declared.process_words.WordsFault.{WordsFault}
 use Rattle.asl.specs.declared.process_words.WordsFault.TheVariants.{NotText, OutOfMemory}
 
--- what is reported of the word of a number by the first bytes of a buffer: the word, that there is none, or that it is longer than
+-- what is told of the word of a number by the first bytes of a buffer: the word, that there is none, or that it is longer than
 -- the buffer
 abbrev pub TellsWord : List (List ℕ) → ℕ → List ℕ → Result ℕ FillError → Type 0
 TellsWord words number buffer (Ok count) = slice_get words number ≡ Some (take count buffer)

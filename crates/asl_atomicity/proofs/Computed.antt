@@ -14,7 +14,7 @@ use Rattle.asl_machine.specs.StepFunction.{step_of}
 use Rattle.asl_atomicity.specs.Serial.{heard, is_outside, IsInside, ListCovered, IsAtEntry}
 use Rattle.asl_atomicity.specs.Renamed.{Renaming, reply_by, IsRenamed, Keeps}
 
--- what a thread is reported in a schedule
+-- what a thread is told in a schedule
 abbrev pub told : Image → State → ℕ → List ℕ → List Reply
 told image s thread [] = []
 told image s thread (t ∷ ts) = (if t == thread then heard (step_of image s t).reply else []) ++ told image (step_of image s t).state thread ts

@@ -38,7 +38,7 @@ inside_stays image s u t apart i = record {
   makes_none = i.makes_none;
 }
 
--- what one thread is reported comes in the order of its own steps alone
+-- what one thread is told comes in the order of its own steps alone
 pub two_told : (u t x : ℕ) → u ≢ t → (ru rt rest : List Reply) →
     (if u == x then ru else []) ++ ((if t == x then rt else []) ++ rest) ≡ (if t == x then rt else []) ++ ((if u == x then ru else []) ++ rest)
 two_told u t x apart ru rt rest =

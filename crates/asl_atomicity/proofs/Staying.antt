@@ -122,7 +122,7 @@ run_grows image [] s sound = le_self (length s.objects)
 run_grows image (u ∷ us) s sound =
     le_le (length s.objects) (length (step_of image s u).state.objects) (length (state_after image (step_of image s u).state us).objects) (steps image s u sound).grows (run_grows image us (step_of image s u).state (step_sound image s u sound))
 
--- what a thread is reported speaks of objects that are there then
+-- what a thread is told speaks of objects that are there then
 pub told_stays : (image : Image) (f : ℕ → ℕ) (us : List ℕ) (s : State) (x : ℕ) → SatisfiesInvariant image s → ((n : ℕ) → n < length (state_after image s us).objects → f n ≡ n) → each (reply_by f) (told image s x us) ≡ told image s x us
 told_stays image f [] s x sound stays = refl
 told_stays image f (u ∷ us) s x sound stays =

@@ -41,7 +41,7 @@ module _ (image : Image) (count : ℕ) (fits : FitsImage image) (guarded : IsGua
       replies : (x : ℕ) → told image s x serial ≡ each (reply_by renaming.new) (told image s x done)
       order : outside image s serial ≡ outside image s done
 
-    -- what is reported of one step more
+    -- what is told of one step more
     told_more : (us : List ℕ) (t x : ℕ) → told image s x (us ++ t ∷ []) ≡ told image s x us ++ (if t == x then heard (step_of image (state_after image s us) t).reply else [])
     told_more us t x = told_parts image us (t ∷ []) s x ∙ ap (λ z. told image s x us ++ z) (append-nil (if t == x then heard (step_of image (state_after image s us) t).reply else []))
 

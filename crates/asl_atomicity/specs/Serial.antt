@@ -20,7 +20,7 @@ use Rattle.asl_machine.specs.Run.{start_of}
 use Rattle.asl_machine.specs.Request.{heap_of, request_of, locks_of}
 use Rattle.asl_machine.specs.Step.{Step}
 
--- a step of a run: the state before it, its thread, and what the thread is reported
+-- a step of a run: the state before it, its thread, and what the thread is told
 pub record TakenStep : Type 0 where
   pub before : State
   pub thread : ℕ
@@ -37,7 +37,7 @@ heard reply.Blocked = []
 heard reply.Ended = []
 heard r = r ∷ []
 
--- what a thread is reported in a run
+-- what a thread is told in a run
 abbrev pub told : ℕ → List TakenStep → List Reply
 told thread [] = []
 told thread (step ∷ steps) = (if step.thread == thread then heard step.reply else []) ++ told thread steps

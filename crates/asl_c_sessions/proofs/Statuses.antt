@@ -65,7 +65,7 @@ step_kept : (P : Type 0) (a : Result Reply StepFault) → OnErr a P → step_sta
 step_kept P (Ok reply) same some = absurd (some refl)
 step_kept P (Err fault) same some = same
 
--- no step is reported as a closed session
+-- no step is told as a closed session
 pub step_other : (a : Result Reply StepFault) → step_status a ≢ 3
 step_other (Ok reply) = λ e. omega arith
 step_other (Err step.OutOfMemory) = λ e. omega arith
@@ -132,7 +132,7 @@ move_kept : (P : Type 0) (a : Result (Unit {0}) DebugFault) → OnErr a P → mo
 move_kept P (Ok done) same some = absurd (some refl)
 move_kept P (Err fault) same some = same
 
--- no move is reported as a closed session
+-- no move is told as a closed session
 pub move_other : (a : Result (Unit {0}) DebugFault) → move_status a ≢ 3
 move_other (Ok done) = λ e. omega arith
 move_other (Err debug.AtEnd) = λ e. omega arith

@@ -1,4 +1,4 @@
--- What is reported of a session as text (docs/JOURNAL.md, "Words of the debugger" and "log").
+-- What is told of a session as text (docs/JOURNAL.md, "Words of the debugger" and "log").
 use Rattle.std.specs.Prelude.{◌≡◌, ℕ, suc, List, [], ◌∷◌, ◌++◌, drop, length, min}
 use Rattle.asl_machine.specs.View.{Configuration}
 use Rattle.asl_journal.specs.declared.event.Event.{Event}

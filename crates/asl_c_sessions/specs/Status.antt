@@ -1,4 +1,4 @@
--- What a call on a session answers, and what it leaves of it (docs/EMBEDDING.md, "Sessions from C").
+-- What a call on a session (src/session_exports) answers, and what it leaves of the session (docs/EMBEDDING.md, "Sessions from C").
 use Rattle.std.specs.Prelude.{◌≡◌, ◌≢◌, ◌<◌, ◌≤◌, ◌+◌, ◌↔◌, ◌⊎◌, ℕ, List, length, take, Result, Ok, Err}
 use Rattle.asl_machine.specs.declared.reply.Reply.{Reply}
 use Rattle.asl_journal.specs.Journal.{IsJournal, most_events, with_event}
@@ -59,19 +59,19 @@ IsGone s k status new = IsMovedTo s (moved s k) k status new
 abbrev pub IsCut : Session → ℕ → ℕ → Session → Type 0
 IsCut s k status new = IsMovedTo s (recorded s (record { threads = s.log.threads; events = take k s.log.events }) k) k status new
 
--- 0: the buffer holds the text as far as it has room, and its whole length is reported. Else it is 2: there was no memory
+-- 0: the buffer holds the text as far as it has room, and its whole length is told. Else it is 2: there was no memory
 pub record IsTold (text old new : List ℕ) (told status : ℕ) : Type 0 where
   pub done : status ≡ 0 → Holds text old new × (told ≡ length text)
   pub other : (status ≡ 0) ⊎ (status ≡ 2)
 
--- 0: the buffer holds the page of the machine at the session's position, as far as it has room, and its whole length is reported. Else
+-- 0: the buffer holds the page of the machine at the session's position, as far as it has room, and its whole length is told. Else
 -- it is 2: there was no memory
 pub record IsPageTold (page : Page) (s : Session) (old new : List ℕ) (told status : ℕ) : Type 0 where
   pub done : status ≡ 0 → (text : List ℕ) × IsPage page s text × Holds text old new × (told ≡ length text)
   pub other : (status ≡ 0) ⊎ (status ≡ 2)
 
 -- 0: there are bytes that spell the session's program and its whole journal, wherever its position is; the buffer holds them as far as
--- it has room, and their whole length is reported. Else it is 2: there was no memory
+-- it has room, and their whole length is told. Else it is 2: there was no memory
 pub record IsRunFileTold (s : Session) (old new : List ℕ) (told status : ℕ) : Type 0 where
   pub done : status ≡ 0 → (file : List ℕ) × SpellsRun s.image s.log file × Holds file old new × (told ≡ length file)
   pub other : (status ≡ 0) ⊎ (status ≡ 2)

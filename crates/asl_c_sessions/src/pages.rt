@@ -1,4 +1,4 @@
-//! What is reported of a session as text.
+//! What is told of a session as text.
 ghost use Rattle.std.specs.Prelude.{◌≡◌, ◌+◌, ◌<◌, ◌^◌, length, IfOk, string_bytes};
 ghost use Rattle.asl_c_sessions.specs.Pages.{page_text, event_lines};
 

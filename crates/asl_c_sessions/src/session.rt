@@ -123,7 +123,7 @@ impl Session {
         (Session { program, debugger }, answer)
     }
 
-    /// What is reported of the machine at the position.
+    /// What is told of the machine at the position.
     ///
     /// # Errors
     ///

@@ -1,4 +1,5 @@
--- Machinery of the proofs, not of the promise: what a debugger keeps of its fields; contracts speak of sessions.
+-- Machinery of the proofs, not of the promise: what a debugger keeps of its fields (src/checkpoints.rt, src/trail.rt); contracts speak of
+-- sessions.
 use Rattle.std.specs.Prelude.{◌≡◌, ◌<◌, ◌≤◌, ◌+◌, ◌*◌, ℕ, All, List, length, slice_get, Some}
 use Rattle.asl_code.specs.declared.image.Image.{Image}
 use Rattle.asl_machine.specs.View.{Configuration}

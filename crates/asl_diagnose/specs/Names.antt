@@ -1,4 +1,4 @@
--- The names of refusals, as the program prints them, and the words that a refusal is reported with first.
+-- The names of refusals, as the program prints them, and the words that a refusal is told with first.
 use Rattle.std.specs.Prelude.{ℕ, List, ◌++◌, codes}
 use Rattle.std.specs.Fmt.{decimal}
 use Rattle.asl_syntax.specs.declared.fault.SyntaxFault.{SyntaxFault}

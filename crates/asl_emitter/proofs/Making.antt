@@ -13,7 +13,7 @@ use Rattle.asl_emitter.specs.Inferred.{IsInferred}
 use Rattle.asl_emitter.specs.BuiltImage.{AreFitted, IsMade}
 use Rattle.asl_emitter.proofs.Fits.{fitted_same}
 
--- what is reported of the place after an `acq` is what is needed there
+-- what is told of the place after an `acq` is what is needed there
 pub told_needed : (l : Lowered) (c : Classed) (stores : ℕ → ℕ → Bool) (k_limit : ℕ) (parts : List RegionNeeds) → TellsNeeded l c stores k_limit parts → (r : Region) (pc : ℕ) (a : Lock) → IsTold parts r (pc + 1) a ↔ Needed l c stores k_limit r (suc pc) a
 told_needed l c stores k_limit parts tells r pc a =
     let same : pc + 1 ≡ suc pc = omega arith in

@@ -58,7 +58,7 @@ pub fn inferred_images_are_sound()
 {}
 
 /// A program has one outcome at the most, lack of memory aside: a fault of its lowering keeps out all else, too many classes
-/// keep out too many locks, and an accepted program has no fault. Of several regions with too many locks any is reported.
+/// keep out too many locks, and an accepted program has no fault. Of several regions with too many locks any is told.
 pub fn programs_have_one_outcome()
     ensures registers { (is : List Item) (k_limit function : ℕ) (other : AnyFault) → IsRefusedInference is k_limit (AnyFault.Registers function)
         → IsRefusedInference is k_limit other → other ≡ AnyFault.Registers function }

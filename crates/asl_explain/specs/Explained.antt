@@ -62,7 +62,7 @@ pub record IsEnding (x : Read) (section : ℕ) (lock : Lock) (e : Ending) : Type
   pub chain : IsChain x (Inside section) (suc e.pc) lock e.chain.steps
   pub dropped : IsDropped x section e.pc lock
 
--- the lock ends at a `new` of the section, and at the one that is reported, if one is
+-- the lock ends at a `new` of the section, and at the one that is told, if one is
 pub record IsEnded (x : Read) (section : ℕ) (e : Ended) : Type 0 where
   pub dropped : (pc : ℕ) × IsDropped x section pc e.lock
   pub told : IfSome e.ending (IsEnding x section e.lock)

@@ -61,7 +61,7 @@ fn told(classes: &Classes) -> Told {
     )
 }
 
-/// What is reported of the classes of a source, and which of two classes each of two functions writes.
+/// What is told of the classes of a source, and which of two classes each of two functions writes.
 fn analysed(alloc: Global, source: &[u8]) -> Option<(Told, [bool; 4])> {
     let lowering = lowered(alloc, source)?;
     let classes = classed(alloc, &lowering)?;

@@ -20,7 +20,7 @@ owner_is (g ∷ fs) (suc n) pc f e low high =
     cond-false (nat_lt pc g.len) 0 (suc (owner_of fs (pc - g.len))) (le-ltb pc g.len (omega (arith, s, low)))
     ∙ ap suc (owner_is fs n (pc - g.len) f e (omega (arith, s, low)) (omega (arith, s, low, high)))
 
--- of what is reported through a function, there is something
+-- of what is told through a function, there is something
 pub from_mapped : {A B : Type 0} (f : A → B) (o : Option A) (y : B) → option_map f o ≡ Some y → (x : A) × (o ≡ Some x) × (f x ≡ y)
 from_mapped f None y e = cc
 from_mapped f (Some x) y e = (x, refl, cc)

@@ -73,7 +73,7 @@ step_leaves_held image s t u n apart =
 
 -- ---- the objects
 
--- what is reported of an object in a way that no store changes, as its class and its size
+-- what is told of an object in a way that no store changes, as its class and its size
 module _ {B : Type 0} (f : Object → B) (same : (objects : List Object) (c : Cell) (v : Value) (n : ℕ) → option_map f (slice_get (written objects c v) n) ≡ option_map f (slice_get objects n)) where
   stored_keeps : (objects : List Object) (v : Value) (target : Result Cell Fault) (n : ℕ) (b : B) → option_map f (slice_get objects n) ≡ Some b → option_map f (slice_get (objects_stored objects v target) n) ≡ Some b
   stored_keeps objects v (Ok c) n b e = same objects c v n ∙ e

@@ -88,7 +88,7 @@ value_before objects more x v e =
       | Some p ↦ λ is f. cell_from _ x.offset p (get_before objects more x.object p is) ∙ f
     ] refl e
 
--- what is reported of an object that is there is told of it when more are made
+-- what is told of an object that is there is told of it when more are made
 pub read_before : {B : Type 0} (f : Object → B) (objects more : List Object) (n : ℕ) (b : B) → option_map f (slice_get objects n) ≡ Some b → option_map f (slice_get (objects ++ more) n) ≡ Some b
 read_before f objects more n b h =
     elim (slice_get objects n) as (λ o. slice_get objects n ≡ o → option_map f o ≡ Some b → option_map f (slice_get (objects ++ more) n) ≡ Some b) [

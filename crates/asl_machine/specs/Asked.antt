@@ -1,4 +1,4 @@
--- What a thread asks for that stands at an `acq` in no section (docs/LOCKS.md, "Requests"). Who is in its way is reported by
+-- What a thread asks for that stands at an `acq` in no section (docs/LOCKS.md, "Requests"). Who is in its way is told by
 -- `IsInTheWay` of asl_lock_forest; the laws of src/asked_laws.rt say when nobody is.
 use Rattle.std.specs.Prelude.{ℕ, ◌==◌, List, Option, None, Some, slice_get, option_and_then, if◌then◌else◌}
 use Rattle.asl_code.specs.declared.image.Image.{Image}

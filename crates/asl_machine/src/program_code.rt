@@ -1,4 +1,4 @@
-//! A program as a machine steps through it: where each function begins is reported at once.
+//! A program as a machine steps through it: where each function begins is found at once.
 ghost use Rattle.std.specs.Prelude.{◌≡◌, ◌<◌, ◌^◌, IfOk, IsSome, Some, length, slice_get};
 ghost use Rattle.asl_code.specs.Bodies.{first_of, total_len};
 ghost use Rattle.asl_machine.specs.Calls.{function_of};

@@ -1,4 +1,4 @@
-//! The harness of calls that may be refused memory, for tests. A call that wants memory is made once more, when nothing is reported
+//! The harness of calls that may be refused memory, for tests. A call that wants memory is made once more, when nothing is told
 //! of its receiver that was not told before; then it must give the answer of ample memory. So what covers this harness
 //! passes whichever one allocation fails, and `tools/refused` refuses each in turn.
 #![tactic(auto)]

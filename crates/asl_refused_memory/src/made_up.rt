@@ -50,7 +50,7 @@ fn a_refused_call_is_made_once_more(rt: HostRuntime) {
     }
 }
 
-/// What is reported of it, and how many calls of it were made.
+/// What is told of it, and how many calls of it were made.
 #[derive(Drop)]
 struct Receiver {
     told: u32,
@@ -61,7 +61,7 @@ fn told(receiver: &Receiver) -> u32 {
     receiver.told
 }
 
-/// A call that adds so much to what is reported.
+/// A call that adds so much to what is told.
 fn adding(_: Global, receiver: &mut Receiver, given: (&(Answer, Answer), u32)) -> Answer {
     let (answers, more) = given;
     let number = receiver.made;
@@ -85,7 +85,7 @@ fn a_refused_call_that_changed_nothing_is_made_once_more(rt: HostRuntime) {
     }
 }
 
-/// The same of calls that change what is reported: the one that answers may, the refused one may not.
+/// The same of calls that change what is told: the one that answers may, the refused one may not.
 static CHANGING: [Row; 2] = [
     ((Ok(7), Ok(8)), Some(7), 1),
     ((Err(Fault::Memory), Ok(8)), None, 1),

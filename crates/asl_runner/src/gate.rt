@@ -1,4 +1,4 @@
-//! What a caller is reported while workers run.
+//! What a caller is told while workers run.
 use asl_journal::Receipt;
 
 /// What each worker calls around each of its steps, with its own number, from 0, and the number of the step among its own,

@@ -11,7 +11,7 @@ pub grown : {T E : Type 0} (r : Result T E) (old mid new first second : List ℕ
 grown (Ok x) old mid new first second a b = b ∙ ap (λ l. l ++ second) a ∙ append_assoc old first second
 grown (Err e) old mid new first second a b = tt
 
--- a request that asks for something is reported by its nodes and their clashes
+-- a request that asks for something is told by its nodes and their clashes
 pub asked_some : (classes : ℕ) (s : State) (t : ℕ) (request : Request) → (length request == 0) ≡ false
     → asked_text classes s t request ≡ node_lines classes s (ask_line t request) ++ node_lines classes s (clash_lines s t request)
 asked_some classes s t [] e = cc

@@ -1,4 +1,4 @@
--- The promise: no run of an image ever faults for a missing lock (docs/SOUNDNESS.md, "The statement").
+-- The promise of the laws in src/laws.rt: no run of an image ever faults for a missing lock (docs/SOUNDNESS.md, "The statement").
 use Rattle.std.specs.Prelude.{◌≡◌, ℕ, suc, Bool, true, List, Some, slice_get, All}
 use Rattle.asl_code.specs.declared.image.Image.{Image}
 use Rattle.asl_code.specs.declared.lock.Lock.{Lock}

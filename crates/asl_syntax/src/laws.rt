@@ -48,7 +48,7 @@ pub fn names_are_known()
     ensures arity { (t : List Item) (ss : List Spot) → Spells t (bare ss) → twice t ≡ None → unknown t ≡ None → (wrong_call t ss ≡ None) ↔ HaveArity t }
 {}
 
-/// What is reported of names is the first fault: the name of the first declaration that repeats one, the name of the first
+/// What is told of names is the first fault: the name of the first declaration that repeats one, the name of the first
 /// unknown use, and, where names are declared once and known, the place of the first wrong call.
 pub fn faults_of_names_are_the_first()
     ensures twice { (t : List Item) (x : List ℕ) → twice t ≡ Some x → IsFirstTwice t x }

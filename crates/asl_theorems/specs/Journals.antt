@@ -21,7 +21,7 @@ pub record AreSteps (image : Image) (count : ℕ) (events : List Event) (end : S
   pub run : IsRun image (start_of image count) steps end
   pub told : events ≡ events_of steps
 
--- what a thread is reported in a journal
+-- what a thread is told in a journal
 abbrev pub told_in : ℕ → List Event → List Reply
 told_in thread [] = []
 told_in thread (event ∷ events) = (if event.thread == thread then heard event.reply else []) ++ told_in thread events
