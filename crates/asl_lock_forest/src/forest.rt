@@ -3,7 +3,7 @@ ghost use Rattle.std.specs.Prelude.{◌≡◌, ◌≢◌, ℕ, ◌↔◌, ◌<�
 ghost use Rattle.asl_code.specs.Versions.{newest_threads};
 ghost use Rattle.asl_mode_lanes.specs.Mode.{is_at_most};
 ghost use Rattle.asl_lock_forest.specs.Node.{IsThere};
-ghost use Rattle.asl_lock_forest.specs.Holding.{held, no_holding, HoldsNothing, grant, release, CanGrant, covering_mode, Covers};
+ghost use Rattle.asl_lock_forest.specs.Holding.{asked, held, no_holding, HoldsNothing, grant, release, CanGrant, covering_mode, Covers};
 ghost use Rattle.asl_lock_forest.specs.Request.{names_once, asks_modes, asks_parents, IsOfClasses, IsRefusedRequest, GoesWithOthers, IsKeptFrom};
 
 use crate::Node;
@@ -46,6 +46,7 @@ impl Model for Forest {
 
 impl Forest {
     ghost use Rattle.asl_lock_forest.specs.Held.{IsForest};
+    ghost use Rattle.asl_lock_forest.specs.declared.node.Node.{Node};
 
     /// The forest over classes 0 to `classes - 1` in which none of the threads holds anything.
     ///
@@ -186,6 +187,14 @@ impl Forest {
         } else {
             self.rows.mode(thread, node)
         }
+    }
+
+    /// What the thread holds: the nodes, each with its mode, and no other node.
+    pub fn held_nodes(&self, thread: u32) -> &[(Node, Mode)]
+        requires { thread < self.now.threads }
+        ensures { (node : Node) → asked result.now node ≡ held self.now.holding thread node }
+    {
+        self.held[thread as usize].as_slice()
     }
 
     /// Whether the thread covers the cell, of an object of the class, for the effect: by what it holds at the
