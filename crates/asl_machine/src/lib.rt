@@ -7,6 +7,7 @@ mod fate;
 mod fault;
 mod frame;
 mod frame_only;
+mod free_locks;
 mod fresh_laws;
 mod heap;
 mod laws;

@@ -7,6 +7,7 @@ ghost use Rattle.asl_machine.specs.Access.{AreOfClasses};
 ghost use Rattle.asl_machine.specs.Request.{LockOfClass, heap_of, asks_of, upper_mode, joined_with, joined_all, request_of};
 ghost use Rattle.asl_machine.specs.Asking.{leaf_of, node_of, asks_at, AreFree, IsHeldUp};
 
+use crate::free_locks::are_free;
 use crate::heap::Heap;
 use crate::packed_value::PackedValue;
 use asl_code::{Base, Cell, Effect, Expr, Lock};
@@ -14,6 +15,9 @@ use asl_expression::{follow, pointed};
 use asl_lock_forest::{Forest, Node};
 use asl_mode_lanes::{Mode, join};
 use std::alloc::{AllocError, Global};
+
+/// Of more locks than these, all are looked at before anything is noted: to note an ask is to look for its node among those before.
+const FEW: usize = 8;
 
 /// Makes the request of the locks in these registers and this heap: at each node the join of what the locks ask there. Ends
 /// where another thread is in the way of one of them: whether none is.
@@ -36,6 +40,9 @@ pub fn request(
     ensures asks { OnErr result (0 < length (request_of heap.now regs.now locks.now)) }
 {
     asks.clear();
+    if locks.len() > FEW && !are_free(locks, regs, heap, forest, t) {
+        return Ok(false);
+    }
     for lock in locks {
         if !add_lock(asks, lock, regs, heap, forest, t)? {
             return Ok(false);
@@ -103,7 +110,7 @@ fn add_lock(
 }
 
 /// The lock's own node, if it has one.
-fn node_of(lock: &Lock, regs: &[PackedValue], heap: &Heap) -> Option<Node>
+pub(crate) fn node_of(lock: &Lock, regs: &[PackedValue], heap: &Heap) -> Option<Node>
     ensures { result ≡ node_of heap.now regs.now lock.now }
 {
     match lock {
@@ -141,7 +148,7 @@ fn leaf_of(cell: Option<Cell>, heap: &Heap) -> Option<Node>
 }
 
 /// Whether no other thread keeps thread t from what a lock on the node asks.
-fn is_free(forest: &Forest, t: u32, node: Node, effect: Effect) -> bool
+pub(crate) fn is_free(forest: &Forest, t: u32, node: Node, effect: Effect) -> bool
     requires { IsThere forest.now.classes node }
     ensures free { IsTrue result → AreFree forest.now.holding t (asks_at effect node) }
     ensures kept { result ≡ false → IsHeldUp forest.now.holding t (asks_at effect node) }

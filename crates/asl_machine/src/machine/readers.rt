@@ -27,7 +27,7 @@ pub struct FramePlace {
 }
 
 impl<'p> Machine<'p> {
-    ghost use Rattle.asl_lock_forest.specs.Holding.{held};
+    ghost use Rattle.asl_lock_forest.specs.Holding.{asked, held};
     ghost use Rattle.asl_lock_forest.specs.Node.{IsThere};
     ghost use Rattle.asl_machine.specs.View.{status_of};
     ghost use Rattle.asl_machine.specs.Nodes.{IsNode};
@@ -147,6 +147,14 @@ impl<'p> Machine<'p> {
         } else {
             Mode::NL
         }
+    }
+
+    /// What thread t holds: the nodes, each with its mode, and no other node.
+    pub fn held_nodes(&self, t: u32) -> &[(Node, Mode)]
+        requires { t < length self.now.state.threads }
+        ensures { (node : Node) → asked result.now node ≡ held self.now.state.holding t node }
+    {
+        self.forest.held_nodes(t)
     }
 
     /// Whether the object is fresh for thread t: never where the thread has ended or the object is not there, and never by
