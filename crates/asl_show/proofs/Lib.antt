@@ -1,4 +1,5 @@
 mod Texts
 mod Lines
+mod Silent
 mod Clashes
 mod Frames

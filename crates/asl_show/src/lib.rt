@@ -3,6 +3,7 @@
 
 mod clash_lines;
 mod laws;
+mod next_number;
 mod nodes;
 mod objects;
 mod replies;

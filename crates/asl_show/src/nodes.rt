@@ -2,10 +2,11 @@
 ghost use Rattle.std.specs.Prelude.{◌≡◌, ◌<◌, ◌≤◌, ◌++◌, length, option_map, OnOk, string_bytes};
 ghost use Rattle.asl_lock_forest.specs.declared.node.Node.TheVariants.{Class};
 ghost use Rattle.asl_show.specs.Lines.{lines_from};
-ghost use Rattle.asl_show.specs.About.{line_about};
+ghost use Rattle.asl_show.specs.About.{IsSilent, line_about};
 ghost use Rattle.asl_show.specs.Nodes.{ask_line, held_line, leaf_lines, leaves_of, mode_name, node_lines, node_text};
 
 use crate::clash_lines::{mode_in, push_clashes};
+use crate::next_number::{Numbers, next_number};
 use crate::objects::cells;
 use crate::replies::push_address;
 use asl_code::Cell;
@@ -25,7 +26,7 @@ pub enum About<'a> {
     Clashes(&'a [(Node, Mode)]),
 }
 
-/// Adds the lines of all nodes: the root, the classes, the leaves by object and offset.
+/// Adds the lines of all nodes: the root, the classes, the leaves by object and offset. Only those are looked at that are held or asked.
 pub fn push_nodes(
     text: &mut String,
     classes: u32,
@@ -38,41 +39,65 @@ pub fn push_nodes(
     ensures { OnOk result (string_bytes text.new ≡ string_bytes text.old
         ++ node_lines classes machine.now.state (line_about machine.now.state t about.now)) }
 {
+    let nodes = nodes_of(machine, t, about);
     push_at(text, machine, t, Node::Root, about)?;
-    push_classes(text, classes, machine, t, about)?;
-    push_leaves(text, machine, t, about)
+    push_classes(text, classes, machine, t, about, nodes)?;
+    push_leaves(text, machine, t, about, nodes)
 }
 
+/// The nodes of which something may be said.
+fn nodes_of<'a>(machine: &'a Machine<'_>, t: u32, about: &About<'a>) -> &'a [(Node, Mode)]
+    requires { t < length machine.now.state.threads }
+    ensures { IsSilent (line_about machine.now.state t about.now) result.now }
+{
+    match about {
+        About::Held => machine.held_nodes(t),
+        About::Asked(request) => *request,
+        About::Clashes(request) => *request,
+    }
+}
+
+/// Adds the lines of the classes, from one that the nodes name to the next.
 fn push_classes(
     text: &mut String,
     classes: u32,
     machine: &Machine<'_>,
     t: u32,
     about: &About<'_>,
+    nodes: &[(Node, Mode)],
 ) -> Result<(), AllocError>
     requires thread { t < length machine.now.state.threads }
     requires few { classes ≤ 65536 }
+    requires silent { IsSilent (line_about machine.now.state t about.now) nodes.now }
     ensures { OnOk result (string_bytes text.new ≡ string_bytes text.old
         ++ lines_from (λ class. line_about machine.now.state t about.now (Class class)) 0 classes) }
 {
-    for class in 0..classes {
+    let mut class = next_number(nodes, Numbers::Classes, 0, classes);
+    while class < classes {
         push_at(text, machine, t, Node::Class(class as u16), about)?;
+        class = next_number(nodes, Numbers::Classes, class + 1, classes);
     }
     Ok(())
 }
 
+/// Adds the lines of the leaves, from one object of which the nodes name leaves to the next.
 fn push_leaves(
     text: &mut String,
     machine: &Machine<'_>,
     t: u32,
     about: &About<'_>,
+    nodes: &[(Node, Mode)],
 ) -> Result<(), AllocError>
-    requires { t < length machine.now.state.threads }
+    requires thread { t < length machine.now.state.threads }
+    requires silent { IsSilent (line_about machine.now.state t about.now) nodes.now }
     ensures { OnOk result (string_bytes text.new ≡ string_bytes text.old
         ++ lines_from (leaf_lines machine.now.state (line_about machine.now.state t about.now)) 0 (length machine.now.state.objects)) }
 {
-    for object in 0..machine.objects() {
-        push_leaves_of(text, machine, t, object as u16, about)?;
+    let objects = machine.objects();
+    let mut object = next_number(nodes, Numbers::Objects, 0, objects);
+    while object < objects {
+        push_leaves_of(text, machine, t, object as u16, about, nodes)?;
+        object = next_number(nodes, Numbers::Objects, object + 1, objects);
     }
     Ok(())
 }
@@ -84,17 +109,20 @@ fn push_leaves_of(
     t: u32,
     object: u16,
     about: &About<'_>,
+    nodes: &[(Node, Mode)],
 ) -> Result<(), AllocError>
-    requires { t < length machine.now.state.threads }
+    requires thread { t < length machine.now.state.threads }
+    requires silent { IsSilent (line_about machine.now.state t about.now) nodes.now }
     ensures { OnOk result (string_bytes text.new ≡ string_bytes text.old
         ++ leaf_lines machine.now.state (line_about machine.now.state t about.now) object) }
 {
     match machine.class(u32::from(object)) {
-        Some(class) => push_leaves_in(text, machine, t, object, class as u16, about),
+        Some(class) => push_leaves_in(text, machine, t, object, class as u16, about, nodes),
         None => Ok(()),
     }
 }
 
+/// Adds the lines of the leaves of an object of the class, from one that the nodes name to the next.
 fn push_leaves_in(
     text: &mut String,
     machine: &Machine<'_>,
@@ -102,17 +130,22 @@ fn push_leaves_in(
     object: u16,
     class: u16,
     about: &About<'_>,
+    nodes: &[(Node, Mode)],
 ) -> Result<(), AllocError>
-    requires { t < length machine.now.state.threads }
+    requires thread { t < length machine.now.state.threads }
+    requires silent { IsSilent (line_about machine.now.state t about.now) nodes.now }
     ensures { OnOk result (string_bytes text.new ≡ string_bytes text.old
         ++ leaves_of machine.now.state (line_about machine.now.state t about.now) object class) }
 {
-    for offset in 0..cells(machine, object) {
+    let cells = cells(machine, object);
+    let mut offset = next_number(nodes, Numbers::Cells(object), 0, cells);
+    while offset < cells {
         let cell = Cell {
             object,
             offset: offset as u8,
         };
         push_at(text, machine, t, Node::Leaf(cell, class), about)?;
+        offset = next_number(nodes, Numbers::Cells(object), offset + 1, cells);
     }
     Ok(())
 }
