@@ -59,5 +59,6 @@ fn told(alloc: Global, text: &[u8], fault: AsmFault) -> Diagnosis
         may_end: false,
         first: None,
         bringers: None,
+        is_cut: false,
     }
 }

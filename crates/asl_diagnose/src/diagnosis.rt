@@ -36,4 +36,6 @@ pub struct Diagnosis {
     pub first: Option<usize>,
     /// For `TooManyLocks` statements that bring most of the locks, if there are few such ones.
     pub bringers: Option<Bringers>,
+    /// For `TooManyLocks` whether the search for these statements ended before its last try, since the text is long.
+    pub is_cut: bool,
 }

@@ -7,12 +7,13 @@ use asl_diagnose_text::{
 use asl_emitter::InferFault;
 use std::alloc::{AllocError, Global};
 
-/// Adds what helps where no lists are inferred for a program.
+/// Adds what helps where no lists are inferred for a program, and whether the search for statements that bring locks was cut.
 pub fn push_infer_hints(
     alloc: Global,
     message: &mut String,
     text: &[u8],
     fault: InferFault,
+    is_cut: bool,
 ) -> Result<(), AllocError> {
     match fault {
         InferFault::Registers(function) => {
@@ -25,13 +26,24 @@ pub fn push_infer_hints(
         InferFault::AccessOutsideSection(function, _) => {
             push_access_hints(alloc, message, text, usize::from(function))
         }
-        InferFault::TooManyLocks(_) => push_hint(
-            message,
-            "shorter paths are fewer: try a smaller K, as --k 0",
-        ),
+        InferFault::TooManyLocks(_) => push_locks_hints(message, is_cut),
         InferFault::CodeSize => push_size_hint(alloc, message, text),
         InferFault::TooManyClasses | InferFault::OutOfMemory => Ok(()),
     }
+}
+
+/// Adds what helps where a region needs too many locks.
+fn push_locks_hints(message: &mut String, is_cut: bool) -> Result<(), AllocError> {
+    if is_cut {
+        push_hint(
+            message,
+            "the text is long, so the search for the statements that bring most of them was cut short",
+        )?;
+    }
+    push_hint(
+        message,
+        "shorter paths are fewer: try a smaller K, as --k 0",
+    )
 }
 
 /// Adds where the first instruction that is too many stands.

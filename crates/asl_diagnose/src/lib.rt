@@ -11,6 +11,7 @@ mod most;
 mod refusal_name;
 mod refusal_text;
 mod region_lines;
+mod search;
 mod source_refusal;
 
 pub use asl_diagnose_text::TokenKind;

@@ -1,11 +1,11 @@
-//! Which statements of a region bring most of its locks.
+//! Whether statements of a region bring most of its locks.
 
 ghost use Rattle.std.specs.Prelude.{◌≡◌, ◌≤◌, true, IfOk, IfSome};
 ghost use Rattle.asl_syntax.specs.AstView.{tree_of};
 ghost use Rattle.asl_backward_flow.specs.Needed.{region_of};
 ghost use Rattle.asl_diagnose.specs.Brought.{AreBringers, HasFlow, HasLocks, IsFilledIn, IsInRegion, IsKept, NeedsSoMany};
 
-use crate::region_lines::{Line, region_lines, region_start};
+use crate::region_lines::{Line, region_start};
 use asl_backward_flow::{Flow, Region, needed};
 use asl_diagnose_text::{are_statements, is_open};
 use asl_emitter::InferFault;
@@ -16,15 +16,6 @@ use std::alloc::{AllocError, Global};
 
 /// The most locks that are left of a region where most of them are gone: half of those that a region may need.
 const FEW: usize = 2048;
-
-/// Into how many parts statements are divided.
-const PARTS: usize = 16;
-
-/// So many parts are tried together first.
-const HALF: usize = 8;
-
-/// How often they are divided: a program has fewer statements than so many parts of parts.
-const DIVISIONS: usize = 5;
 
 /// Statements that bring most of the locks of a region, since without them it needs few: the same text with `0` for the values of
 /// these assignments and with blanks for these stores is a program, and the region needs as many different locks in it as are left.
@@ -130,12 +121,6 @@ fn is_filled_in(text: &[u8], start: usize, end: usize, rest: &[u8]) -> bool
     true
 }
 
-/// So many lines from a number on, as far as they are there.
-fn part_of(lines: &[Line], from: usize, count: usize) -> &[Line] {
-    let (_, part) = lines.split_at(from.min(lines.len()));
-    &part[..count.min(part.len())]
-}
-
 /// Whether a region has what stands from one place to another.
 fn is_in_region(text: &[u8], region: Region, from: usize, to: usize) -> bool
     ensures { result ≡ true → IsInRegion text.now region from to }
@@ -147,7 +132,7 @@ fn is_in_region(text: &[u8], region: Region, from: usize, to: usize) -> bool
 }
 
 /// These statements, if they bring most of the locks of the region.
-fn brought(
+pub(crate) fn brought(
     alloc: Global,
     text: &[u8],
     region: Region,
@@ -179,67 +164,4 @@ fn brought(
         })),
         _ => Ok(None),
     }
-}
-
-/// Of the parts of these statements the one without which the fewest locks are left, if it brings most of them, and the number of
-/// its first statement. Where half of the parts do not bring most of the locks together, none of them is tried alone.
-fn best_part(
-    alloc: Global,
-    text: &[u8],
-    region: Region,
-    k: u32,
-    lines: &[Line],
-) -> Result<Option<(Bringers, usize)>, AllocError>
-    requires { k ≤ 8 }
-    ensures { IfOk result (λ best. IfSome best (λ part. AreBringers text.now k region part.0)) }
-{
-    let size = lines.len().saturating_add(PARTS - 1) / PARTS;
-    let mut best: Option<(Bringers, usize)> = None;
-    let mut is_tried = false;
-    for part in 0..PARTS {
-        let from = size.saturating_mul(part);
-        if part % HALF == 0 {
-            let half = part_of(lines, from, size.saturating_mul(HALF));
-            is_tried = brought(alloc, text, region, k, half)?.is_some();
-        }
-        if is_tried {
-            if let Some(found) = brought(alloc, text, region, k, part_of(lines, from, size))? {
-                if best.map_or(true, |other| found.left < other.0.left) {
-                    best = Some((found, from));
-                }
-            }
-        }
-    }
-    Ok(best)
-}
-
-/// Statements that bring most of the locks of a region, for paths of at most `k` operations. Its assignments and stores are divided
-/// into parts, and so is the part that brings the most, as long as one brings most of the locks, down to a single statement. There is
-/// nothing to tell where no part brings most of them, or where another region needs too many locks too.
-pub fn find_bringers(
-    alloc: Global,
-    text: &[u8],
-    region: Region,
-    k: u32,
-) -> Result<Option<Bringers>, AllocError>
-    requires { k ≤ 8 }
-    ensures { IfOk result (λ found. IfSome found (AreBringers text.now k region)) }
-{
-    let lines = region_lines(alloc, text, region)?;
-    let mut found = None;
-    let mut from: usize = 0;
-    let mut count = lines.len();
-    for _ in 0..DIVISIONS {
-        let part = part_of(lines.as_slice(), from, count);
-        let Some((best, first)) = best_part(alloc, text, region, k, part)? else {
-            return Ok(found);
-        };
-        found = Some(best);
-        from = from.saturating_add(first);
-        count = best.count;
-        if count <= 1 {
-            return Ok(found);
-        }
-    }
-    Ok(found)
 }

@@ -104,7 +104,7 @@ fn push_hints(
             };
             push_syntax_hints(alloc, message, text, fault, told)
         }
-        Refusal::Infer(fault) => push_infer_hints(alloc, message, text, *fault),
+        Refusal::Infer(fault) => push_infer_hints(alloc, message, text, *fault, told.is_cut),
         Refusal::Asm(fault) => push_assembly_hints(alloc, message, text, *fault),
     }
 }

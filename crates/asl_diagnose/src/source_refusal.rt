@@ -12,7 +12,7 @@ ghost use Rattle.asl_diagnose.specs.Crowded.{IsCrowded};
 
 use crate::diagnosis::{Diagnosis, Refusal};
 use crate::infer_place::infer_place;
-use crate::most::{Bringers, find_bringers};
+use crate::search::{Search, find_bringers};
 use asl_diagnose_text::{Expected, column, expected_at_stop, line, syntax_place};
 use asl_emitter::{InferFault, infer};
 use asl_syntax::{Ast, SyntaxFault, parse};
@@ -93,6 +93,7 @@ fn told_syntax(alloc: Global, source: &[u8], fault: SyntaxFault) -> Result<Diagn
         may_end: expected.may_end,
         first,
         bringers: None,
+        is_cut: false,
     })
 }
 
@@ -154,7 +155,8 @@ fn told_infer(
         expected: Vec::new(alloc),
         may_end: false,
         first: None,
-        bringers,
+        bringers: bringers.found,
+        is_cut: bringers.is_cut,
     })
 }
 
@@ -164,9 +166,9 @@ fn bringers_for(
     source: &[u8],
     fault: InferFault,
     k: u32,
-) -> Result<Option<Bringers>, AllocError>
+) -> Result<Search, AllocError>
     requires { k ≤ 8 }
-    ensures bringers { IfOk result (HasBringers source.now k (Refusal.Infer fault)) }
+    ensures bringers { IfOk result (λ search. HasBringers source.now k (Refusal.Infer fault) search.found) }
     ensures memory { OnErr result (IsCrowded fault) }
 {
     match fault {
@@ -175,7 +177,10 @@ fn bringers_for(
         | InferFault::CodeSize
         | InferFault::AccessOutsideSection(_, _)
         | InferFault::TooManyClasses
-        | InferFault::OutOfMemory => Ok(None),
+        | InferFault::OutOfMemory => Ok(Search {
+            found: None,
+            is_cut: false,
+        }),
     }
 }
 
