@@ -77,3 +77,10 @@ def order(sections, first, second):
     fanned = one_of("q", [f"&e[{n}]" for n in reversed(range(first))]) + "y=*q;" + one_of("z", [f"&y[{n}]" for n in reversed(range(second))])
     sought = "fn main(t){p=&g;n=new 255;atomic{*p=n;*n=n;}" + "atomic{x=f();}" * sections + "return t;}"
     return "global g;" + front + fanned + "x=*z;return t;}" + sought
+
+
+def crowded(copies, sections, first, second):
+    """A section that needs too many locks, before sections in one another, each with so many copies before loads that need first times
+    second locks: what is told of the first one is found by leaving parts of it out."""
+    body = "a=t;" * copies + fan(first, second)
+    return globals_of(66) + "fn main(t){a=t;atomic{" + fan(66, 64) + "}" + in_sections(sections, body) + "return t;}"
