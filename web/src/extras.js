@@ -2,6 +2,7 @@
 // their keys, buttons and drawing.
 
 import { isForbidden, keepRecords } from './lessons.js';
+import { drawClasses, listenToClasses, nextClass } from './panels/classes.js';
 import { drawOwn, enterOwn, toggleOwn } from './panels/own.js';
 import { askLine, breakHere, drawBreaks, drawGo, go, listenToGutter } from './panels/go.js';
 import { drawPredict, listenToPredict, togglePredict } from './panels/predict.js';
@@ -25,7 +26,7 @@ export const extraKeys = bench => ({
   g: () => go(bench, 'atomic'), G: () => go(bench, 'end'), Y: () => go(bench, 'event'), I: () => askLine(bench),
   p: () => breakHere(bench), '.': () => go(bench, 'break'), ',': () => go(bench, 'back'),
   C: () => derive(bench, 'c'), J: () => derive(bench, 'lists'),
-  v: () => enterOwn(bench), P: () => togglePredict(bench), H: openHandIn,
+  X: () => nextClass(bench), v: () => enterOwn(bench), P: () => togglePredict(bench), H: openHandIn,
 });
 export const extraButtons = bench => ({ 'own-open': () => toggleOwn(bench), predict: () => togglePredict(bench),
   'lesson-hand-in': openHandIn, 'answer-close': () => closeAnswers(bench) });
@@ -81,12 +82,14 @@ export function listenToExtras(bench, examples) {
   keepRecords(keeper(examples));
   listenToGutter(bench);
   listenToPredict(bench);
+  listenToClasses(bench);
   const dialog = byId('dialog'); // (the keys are the workbench's again once it is closed)
   dialog.addEventListener('close', () => { if (!dialog.open && dialog.contains(document.activeElement)) document.activeElement.blur(); });
   byId('predict-all').addEventListener('change', event => setPredict(bench, predict.on, !event.target.checked));
 }
 export function drawExtras(bench) {
   drawOwn(bench);
+  drawClasses(bench);
   drawBreaks();
   drawGo(bench);
   drawPredict(bench);

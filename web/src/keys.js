@@ -11,7 +11,7 @@ export const KEYS = [
     ['i', 'open files, or a link'], ['N', 'a new program'], ['z', 'a note on a line'],
     ['Esc', 'stop what takes long, close a message'],
     ['k  K', 'larger, smaller k'], ['t  T', 'more, fewer threads'],
-    ['x', 'why these locks'], ['v  Esc', 'into the lists by hand, out of them'],
+    ['x  X', 'why these locks, why one class'], ['v  Esc', 'into the lists by hand, out of them'],
   ['g', 'that thread goes to its next atomic'], ['G', 'to the end of its section'],
   ['Y', 'to its next event that is not “ran”'], ['I', 'to a line'],
   ['p', 'a breakpoint at its line, or none'], ['.  ,', 'all go to a breakpoint, or back to one'],

@@ -23,6 +23,7 @@ import { drawThreads } from './panels/threads.js';
 import { drawHeap } from './panels/heap.js';
 import { drawEvents } from './panels/events.js';
 import { drawHere, drawSections } from './panels/sections.js';
+import { closeClass } from './panels/classes.js';
 import { drawComparison, elsewhere } from './panels/comparison.js';
 import { Comparison } from './comparison.js';
 import { lessonState, restoreLesson, takeLessons } from './lessons.js';
@@ -43,7 +44,7 @@ const examples = Object.create(null); // (no other name is one)
 const bench = new Bench(changed, { state: lessonState, restore: restoreLesson });
 const comparison = new Comparison(bench, changed);
 const due = { frame: 0, what: new Set(), address: 0, lists: 0, working: 0, player: 0, written: 0, measure: null };
-const PLACES = new Set(['rows', 'scroll', 'follow']); // of the editor alone
+const PLACES = new Set(['rows', 'scroll', 'follow', 'point']); // of the editor alone
 const SOON = 200; // milliseconds that may pass before the page says that it waits
 
 // ---- drawing: once a frame, only what changed
@@ -265,7 +266,7 @@ const lists = () => { pressed('lists', 'lists', 'aria-pressed'); changed('size')
 function listenToKeyboard() {
   listenToKeys({ step: t => bench.step(t), ArrowLeft: () => bench.move(-1), ArrowRight: () => bench.move(1),
     ShiftArrowLeft: () => bench.move(-10), ShiftArrowRight: () => bench.move(10), Home: () => bench.go(0),
-    End: () => bench.go(Infinity), Escape: () => { stopAll(); closeTrouble(); },
+    End: () => bench.go(Infinity), Escape: () => { stopAll(); if (!closeTrouble()) closeClass(bench); },
     r: robin, R: random, n: until, u: () => bench.undo(), U: () => bench.redo(), c: () => bench.clear(), ' ': play,
     b: replies('blocked', 1), B: replies('blocked', -1), o: replies('out', 1), O: replies('out', -1), f: replies('fault', 1),
       F: replies('fault', -1), h: toHolder, w: toWriter, '[': sameThread(-1), ']': sameThread(1),

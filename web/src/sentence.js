@@ -5,6 +5,7 @@ import { differenceAt } from './difference.js';
 import { sectionAt } from './stretches.js';
 import { listAt } from './program.js';
 import { BRIEFLY } from './modes.js';
+import { classLink } from './panels/classes.js';
 
 const strong = words => el('b', {}, words);
 const code = words => el('code', {}, words);
@@ -95,7 +96,8 @@ function ran(bench, event) {
   if (change.op === 'call') say('calls ', code(names.functionAt(thread.pc)));
   for (const o of change.objects) {
     const fresh = thread.fresh.includes(o) ? ', fresh: it needs no lock before the section ends' : '';
-    say(`makes ${names.object(o)}, ${count(state.objects[o].length, 'cell')}, class ${run.classOf(bench.position, o)}${fresh}`);
+    const of = run.classOf(bench.position, o);
+    say(`makes ${names.object(o)}, ${count(state.objects[o].length, 'cell')}, class ${of} `, classLink(bench, of, 'made', 'why'), fresh);
   }
   for (const r of change.objects.length ? [] : change.registers)
     say(code(names.registerAt(thread.pc, r)), ' is now ', strong(names.value(thread.registers[r])));

@@ -47,6 +47,7 @@ export const cText = (source, k) => text(ofText(['c', '--k', k], source));
 export const listsText = (source, k) => text(ofText(['lists', '--k', k], source));
 export const mapText = source => text(ofText(['map'], source));
 export const explainText = (source, k, all) => text(ofText(['explain', '--k', k, ...(all ? ['--all'] : [])], source));
+export const classesText = (source, all) => text(ofText(['explain', '--classes', ...(all ? ['--all'] : [])], source));
 export const diagnoseText = (source, k) => text(ofText(['diagnose', '--k', k], source));
 export const diagnoseAssembly = source => text(ofText(['diagnose', '--asm'], source));
 export const assemble = source => ofText(['asm'], source);

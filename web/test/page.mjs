@@ -422,7 +422,7 @@ await part('reasons are those of the native toolchain, of the section that is as
     const sections = await run("document.querySelectorAll('#sections .matrix').length");
     check(sections > 0, name + ': sections');
     for (let section = 0; section < sections; section++) {
-      await run(`document.querySelectorAll('#sections .matrix')[${section}].querySelector('.link').click()`);
+      await run(`document.querySelectorAll('#sections .matrix')[${section}].querySelector('[data-keep^=why]').click()`);
       await calm();
       const shown = await run("document.querySelector('#dialog-body .why').textContent");
       check(shown.startsWith(`section ${section}, `) && native.includes(shown), `${name}: section ${section}: ${shown.slice(0, 40)}`);
@@ -534,6 +534,7 @@ await import('./keeping.mjs');
 await import('./opening.mjs');
 await import('./large.mjs');
 await import('./words.mjs');
+await import('./classes.mjs');
 await import('./derived.mjs');
 await import('./waiting.mjs');
 beginGroup();

@@ -31,7 +31,7 @@ const PLACES = {
   refused: { url: BLOCKED, run: "workbench.openFiles([{ name: 'cut.img', bytes: new TextEncoder().encode('ASLM') }])" },
   notes: { url: BLOCKED, run: "workbench.bench.setNotes({ 4: 'one at a time', 8: 'written here' })" },
   selection: { url: '#example=hash.asl&k=3&threads=2', keys: ['A', 'A', 'e'], run: "document.getElementById('text').setSelectionRange(14, 190)" },
-  why: { url: '#example=walk.asl&k=3&threads=2&steps=0001&at=4', click: '#sections .matrix:nth-child(2) .link' },
+  why: { url: '#example=walk.asl&k=3&threads=2&steps=0001&at=4', click: '#sections .matrix:nth-child(2) [data-keep^=why]' },
   share: { url: BLOCKED, keys: ['s'] },
   keys: { url: BLOCKED, keys: ['?'] },
   lessons: { url: BLOCKED, keys: ['j'] },

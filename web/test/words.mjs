@@ -22,7 +22,7 @@ await part('no advice for a command line: reasons have a button for all, and hin
   await open();
   await run(`workbench.bench.load({ text: ${JSON.stringify(text)}, kind: 'asl', title: 'many.asl', k: 3, threads: 2 })`); await settled();
   await browser.sleep(500);
-  await run(`document.querySelector('[data-list="1"] .link').click()`); await settled();
+  await run(`document.querySelector('[data-list="1"] [data-keep^=why]').click()`); await settled();
   const few = await textOf('#dialog-body .why');
   check(/contains \d+ more locks?\n/.test(few) && !/--/.test(few), 'few of them: ' + few.slice(0, 300));
   await run("document.getElementById('why-all').click()"); await settled();

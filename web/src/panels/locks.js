@@ -3,6 +3,7 @@
 
 import { byId, el, chip, renew, threadColour, whenDrawn } from '../dom.js';
 import { placeIn } from './sections.js';
+import { classLink } from './classes.js';
 import { MEANING } from '../modes.js';
 import { waitAt } from '../stretches.js';
 
@@ -59,7 +60,8 @@ function rows(bench, waits, threads) {
 function nodeName(bench, node) {
   if (node === 'root') return el('b', {}, 'root');
   if (node.startsWith('class')) return ['└ ', el('b', {}, node), ' ',
-    el('span', { class: 'soft' }, bench.names.classMembers(Number(node.slice(6))))];
+    el('span', { class: 'soft' }, bench.names.classMembers(Number(node.slice(6)))), ' ',
+    classLink(bench, Number(node.slice(6)), 'tree', 'why')];
   return el('span', { class: 'leaf' }, '└ ', el('b', {}, bench.names.cell(node.slice(5))), ' ',
     el('span', { class: 'soft' }, node));
 }

@@ -2,6 +2,7 @@
 
 import { byId, chip, el, renew, whenDrawn } from '../dom.js';
 import { waitAt } from '../stretches.js';
+import { isNewlyPointed, pointedLine } from '../pointed.js';
 import { current } from './editor.js';
 import { placeFor, rowOf, rows, scrollEditor } from './rows.js';
 
@@ -16,9 +17,12 @@ export function drawPlaces(bench, follow = true) {
   if (current(bench)) for (const { status, pc } of bench.state.threads) if (status === 'runs') mark(marks, instructionOf(pc), ['here']);
   const line = last && last.pc >= 0 && current(bench) ? bench.names.line(last.pc) : -1;
   if (line >= 0) for (const column of COLUMNS) mark(marks, rowOf(column, line), ['last', last.reply]);
+  const pointed = pointedLine(bench.text);
+  if (pointed >= 0) for (const column of COLUMNS) mark(marks, rowOf(column, pointed), ['pointed']);
   light(marks);
   const seen = line >= 0 ? line : !last && here.size ? Math.min(...here.keys()) : -1;
-  if (follow) whenDrawn(() => keepInSight(bench, seen, [...here.keys()]));
+  if (isNewlyPointed()) whenDrawn(() => bringInSight(pointed));
+  else if (follow) whenDrawn(() => keepInSight(bench, seen, [...here.keys()]));
   whenDrawn(() => { const away = threadsAway(here); return () => drawAway(bench, away); });
 }
 
@@ -48,7 +52,9 @@ function drawChips(bench, here) {
 
 // Elements with classes that they have only now: those that had some and have them no more lose them.
 let lit = new Map();
-const mark = (marks, element, classes) => { if (element) marks.set(element, classes.join(' ')); }; // the painted text may be newer
+const mark = (marks, element, classes) => { // the painted text may be newer
+  if (element) marks.set(element, [marks.get(element), ...classes].filter(Boolean).join(' '));
+};
 function light(marks) {
   for (const [element, classes] of lit) if (marks.get(element) !== classes) element.classList.remove(...classes.split(' '));
   for (const [element, classes] of marks) element.classList.add(...classes.split(' '));
@@ -74,6 +80,11 @@ function keepInSight(bench, line, others) {
   followed.refusal = refusal;
   if (document.activeElement === byId('text')) return null;
   const top = isNew && refusal.line ? placeFor(refusal.line - 1, []) : line >= 0 && !refusal ? placeFor(line, others) : null;
+  return top === null ? null : () => scrollEditor(top);
+}
+
+function bringInSight(line) {
+  const top = line < 0 ? null : placeFor(line, []);
   return top === null ? null : () => scrollEditor(top);
 }
 
