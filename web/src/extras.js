@@ -5,6 +5,8 @@ import { isForbidden, keepRecords } from './lessons.js';
 import { drawClasses, listenToClasses, nextClass } from './panels/classes.js';
 import { drawOwn, enterOwn, toggleOwn } from './panels/own.js';
 import { askLine, breakHere, drawBreaks, drawGo, go, listenToGutter } from './panels/go.js';
+import { drawOrder, orderKey, toggleOrder } from './panels/order.js';
+import { setOrder } from './order.js';
 import { drawPredict, listenToPredict, togglePredict } from './panels/predict.js';
 import { setPredict, predict } from './predict.js';
 import { drawAnswers, closeAnswers, lessonLink, openAnswer, openHandIn } from './panels/answer.js';
@@ -26,9 +28,11 @@ export const extraKeys = bench => ({
   g: () => go(bench, 'atomic'), G: () => go(bench, 'end'), Y: () => go(bench, 'event'), I: () => askLine(bench),
   p: () => breakHere(bench), '.': () => go(bench, 'break'), ',': () => go(bench, 'back'),
   C: () => derive(bench, 'c'), J: () => derive(bench, 'lists'),
-  X: () => nextClass(bench), v: () => enterOwn(bench), P: () => togglePredict(bench), H: openHandIn,
+  X: () => nextClass(bench), q: () => orderKey(bench), Q: () => setOrder(bench, false),
+  v: () => enterOwn(bench), P: () => togglePredict(bench), H: openHandIn,
 });
 export const extraButtons = bench => ({ 'own-open': () => toggleOwn(bench), predict: () => togglePredict(bench),
+  order: () => toggleOrder(bench),
   'lesson-hand-in': openHandIn, 'answer-close': () => closeAnswers(bench) });
 
 // ---- lessons and answers from files and links
@@ -64,10 +68,11 @@ export async function openGivenLink(bench, fragment, examples) {
   note('The link is damaged: it cannot be read.');
   return false;
 }
-// What a link turns on besides: `predict`, or `predict=atomic`.
+// What a link turns on besides: `predict`, or `predict=atomic`; `order`.
 export function openTurns(bench, fragment) {
   const said = /[#&]predict(?:=(\w+))?(?:&|$)/.exec(fragment);
   if (said) setPredict(bench, true, said[1] !== 'atomic');
+  if (/[#&]order(?:&|$)/.test(fragment)) setOrder(bench, true);
 }
 
 export function openLessonsDialog(bench, examples) {
@@ -93,5 +98,6 @@ export function drawExtras(bench) {
   drawBreaks();
   drawGo(bench);
   drawPredict(bench);
+  drawOrder(bench);
   drawAnswers(bench);
 }

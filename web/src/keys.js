@@ -15,6 +15,7 @@ export const KEYS = [
   ['g', 'that thread goes to its next atomic'], ['G', 'to the end of its section'],
   ['Y', 'to its next event that is not “ran”'], ['I', 'to a line'],
   ['p', 'a breakpoint at its line, or none'], ['.  ,', 'all go to a breakpoint, or back to one'],
+  ['q  Q', 'the order of two events in conflict, from one to the next; off'],
   ['P', 'predict each step'], ['H', 'hand in what a lesson has'],
   ['m', 'instructions, hidden or shown'],
   ['l', 'all lanes, or those with events in view'], ['+  −', 'zoom of the timeline'],

@@ -33,6 +33,7 @@ import { drawLesson, openLesson, closeLesson, lessonList, lessonOf, lessonWords 
 import { whyText } from './why.js';
 import { toFragment, fromFragment, wordsOfFragment } from './share.js';
 import { keepFragment, keptFragment, isForeign } from './kept.js';
+import { isLooking, orderIsOn } from './order.js';
 import { keysAreOff, lookWords, show, takeLook } from './look.js';
 import { openSharing } from './sharing.js';
 import { fragmentOf, openFileList, openFiles, openOpening, showOpened } from './opening.js';
@@ -135,7 +136,7 @@ function drawButtons() {
 
 const fragmentNow = () => {
   const moment = bench.moment();
-  return toFragment(moment, examples, lessonWords(moment.lesson), lookWords());
+  return toFragment(moment, examples, lessonWords(moment.lesson), [...lookWords(), ...(orderIsOn() ? ['order'] : [])]);
 };
 // Only the last that was asked for is written.
 async function writeAddress() {
@@ -340,7 +341,7 @@ async function start() {
   requestAnimationFrame(() => setTimeout(() => { window.workbench = { bench, tellView, toolStatistics, textSize,
     loadFile: (name, bytes) => openFiles(bench, examples, [{ name, bytes }]), openFiles: files => openFiles(bench, examples, files),
     openLink, hasCommand,
-    isBusy: () => isBusy() || Boolean(bench.going || due.lists), ready: performance.now() }; }));
+    isBusy: () => isBusy() || isLooking() || Boolean(bench.going || due.lists), ready: performance.now() }; }));
 }
 
 start().catch(cannotStart);

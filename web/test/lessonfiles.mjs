@@ -148,7 +148,7 @@ await part('the lesson and the links of the pages open', async () => {
   const said = { 'lost.asl': /Start/, 'bank.asl': /blocked.*class 1/, 'walk.asl': /blocked.*head/, 'unprotected.asm': /fault Unprotected 0\.0 read/ };
   for (const link of links) {
     await open(link); await settled();
-    const [, example] = /example=([\w.]+)/.exec(link) || [], [, number] = /lesson=(\d)/.exec(link) || [];
+    const [, example] = /example=([\w.-]+)/.exec(link) || [], [, number] = /lesson=(\d)/.exec(link) || [];
     check(await run("document.getElementById('trouble').hidden && workbench.bench.run !== null"), link + ': ' + await textOf('#trouble'));
     if (number) check((await textOf('#lesson-title')).startsWith(`Lesson ${number}: `), link);
     else check(await run('workbench.bench.title') === example && await run("document.body.classList.contains('lecture')") === /lecture/.test(link), link);

@@ -540,6 +540,7 @@ await import('./waiting.mjs');
 beginGroup();
 await import('./own.mjs');
 await import('./go.mjs');
+await import('./order.mjs');
 await import('./lessonfiles.mjs');
 await import('./lessons.mjs');
 await finish();

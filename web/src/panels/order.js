@@ -1,0 +1,68 @@
+// Two events in conflict, and the release and the grant between them: a row of up to four buttons, each of which goes to its event, and
+// their marks in the timeline, by number.
+
+import { byId, chip, el, renew, svg, withCode } from '../dom.js';
+import { accessOf } from '../access.js';
+import { followOrder, goToOrder, nextOfOrder, orderEvents, orderIsOn, orderTold, setOrder } from '../order.js';
+import { note } from '../page.js';
+
+export const toggleOrder = bench => setOrder(bench, !orderIsOn());
+// Turns it on, and then goes from one of the four to the next.
+export function orderKey(bench) {
+  if (!orderIsOn()) return setOrder(bench, true);
+  if (!nextOfOrder(bench)) note('Show an event in conflict with an earlier one of another thread first.');
+}
+
+// What an event does to the cell, or which node it gives back or is granted.
+function doing(bench, k, told) {
+  const { run, names } = bench, { made, writes } = accessOf(run, k), isEntry = run.program.code[run.events[k].pc].startsWith('acq ');
+  const at = !told.node || told.node === 'leaf ' + told.cell ? '' : ` at ${names.shortNode(told.node)}`;
+  if (k === told.release) return `gives back ${told.node ? told.gives + at : 'all'}`;
+  if (k === told.grant) return `is granted ${told.node ? told.gets + at : 'its list'}${k === told.second ? ', and reads for it' : ''}`;
+  if (made >= 0) return 'makes it';
+  return writes.includes(told.cell) ? 'writes' : isEntry ? 'reads for its list' : 'reads';
+}
+
+function steps(bench, told) {
+  return orderEvents().map((k, i) => [i ? el('span', { class: 'soft' }, ' → ') : null,
+    el('button', { key: i, 'data-keep': 'order-' + i, 'data-event': k, 'aria-current': k === bench.position - 1 ? 'true' : null,
+      title: `To event ${k} (q goes from one to the next)`, onclick: () => goToOrder(bench, k) },
+    el('b', { class: 'place' }, i + 1), ` ${k} `, chip(bench.run.events[k].thread), ' ', doing(bench, k, told))]);
+}
+
+function content(bench, told) {
+  const { names } = bench, strong = words => el('b', {}, words);
+  if (told.second < 0) return 'Show an event, to see what it comes after.';
+  if (!told.over) return `Event ${told.second}: the last event in conflict is looked for ..`;
+  if (!told.touches) return withCode(`Event ${told.second} touches no cell.`);
+  if (!told.cell) return `Event ${told.second}: no earlier event of another thread is in conflict with it.`;
+  const cell = [strong('Order'), ' at ', el('code', {}, names.cell(told.cell)), ': '];
+  return [cell, steps(bench, told), told.release === undefined ? [' ', el('span', { class: 'is-fault' }, '▲ no lock orders them'),
+    ': between the two stands no release of the first thread with a grant of the second behind it.'] : null];
+}
+
+export function drawOrder(bench) {
+  const box = byId('s-order');
+  byId('order').setAttribute('aria-pressed', String(orderIsOn()));
+  box.hidden = !orderIsOn() || !bench.run;
+  if (box.hidden) return;
+  followOrder(bench);
+  renew(box, content(bench, orderTold()));
+}
+
+// In the timeline: a ring and a number at each, an arrow from the release to the grant.
+export function orderMarks(bench, plan) {
+  const told = orderTold(), { events } = bench.run, isSeen = k => k >= plan.from && k < plan.to && plan.lane[events[k].thread] >= 0;
+  const size = Math.max(plan.mark * 1.5, 6), place = k => [plan.x(k), plan.y(events[k].thread)];
+  const rings = orderEvents().map((k, i) => {
+    if (!isSeen(k)) return null;
+    const [x, y] = place(k);
+    return svg('g', { key: 'order ' + i, class: 'order-mark', 'data-event': k }, svg('circle', { cx: x, cy: y, r: size }),
+      svg('circle', { cx: x + size, cy: y + size, r: 6.5, class: 'place' }),
+      svg('text', { x: x + size, y: y + size + 4, class: 'middle' }, i + 1));
+  });
+  if (told?.release === undefined || !isSeen(told.release) || !isSeen(told.grant)) return rings;
+  const [x0, y0] = place(told.release), [x1, y1] = place(told.grant), way = Math.sign(y1 - y0);
+  return [svg('path', { key: 'handed over', class: 'order-arrow', 'marker-end': 'url(#arrow-head)',
+    d: `M${x0},${y0 + way * size}L${x1},${y1 - way * (size + 2)}` }), rings];
+}
