@@ -44,7 +44,7 @@ export const checkLists = (source, program, k) => text(ofRun(['check', '--k', k]
 export const hasCommand = name => tool.call([name, '--help']).status === 0;
 // The source as a C program; its lists as one JSON document.
 export const cText = (source, k) => text(ofText(['c', '--k', k], source));
-export const listsText = (source, k) => text(ofText(['lists', '--k', k], source));
+export const listsText = (source, k, behind) => text(ofText(['lists', '--k', k], source, behind));
 export const mapText = source => text(ofText(['map'], source));
 export const explainText = (source, k, all) => text(ofText(['explain', '--k', k, ...(all ? ['--all'] : [])], source));
 export const classesText = (source, all) => text(ofText(['explain', '--classes', ...(all ? ['--all'] : [])], source));

@@ -535,6 +535,7 @@ await import('./opening.mjs');
 await import('./large.mjs');
 await import('./words.mjs');
 await import('./classes.mjs');
+await import('./warnings.mjs');
 await import('./derived.mjs');
 await import('./waiting.mjs');
 beginGroup();
