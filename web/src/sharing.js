@@ -2,7 +2,7 @@
 
 import { byId, el } from './dom.js';
 import { unlessDropped } from './aside.js';
-import { baseOf, canDerive, derive, DERIVED } from './derived.js';
+import { baseOf, canDerive, deriveButtons, DERIVED } from './derived.js';
 import { download, copyText } from './files.js';
 import { note, openDialog } from './page.js';
 import { pictureOf, titleOf } from './picture.js';
@@ -32,7 +32,6 @@ export function openSharing(bench, fragment, lessonWords) {
       run ? [file(base + '-locks.svg', () => boxPicture(byId('s-locks'), byId('locks'), 'Lock tree: ' + whole)),
         file(base + '-heap.svg', () => boxPicture(byId('s-heap'), byId('heap'), 'Heap: ' + whole)),
         file(base + '.img', () => bench.image)] : null,
-      Object.keys(DERIVED).filter(what => canDerive(bench, what)).map(what => el('button', { onclick: () => derive(bench, what) },
-        'Save ' + base + DERIVED[what].ending)),
+      Object.keys(DERIVED).filter(what => canDerive(bench, what)).map(what => deriveButtons(bench, what)),
       file(`${base}.${bench.kind}`, () => bench.text)));
 }

@@ -105,7 +105,7 @@ await part('New, a name, and notes by keys; files get the name', async () => {
   check(await run("workbench.bench.title") === 'my lab.asl' && String(await at()) === '4,4', 'redo brings the new one');
   await key('s'); await settled();
   const files = await run("[...document.querySelectorAll('.files button')].map(e => e.textContent).join()");
-  const derived = await run("workbench.hasCommand('lists')") ? ['.c', '.json'] : ['.c'];
+  const derived = await run("workbench.hasCommand('lists')") ? ['.c, k 3', '.c, k auto', '.json, k 3', '.json, k auto'] : ['.c, k 3', '.c, k auto'];
   const ends = ['.workbench', '.run', '.svg', '-locks.svg', '-heap.svg', '.img', ...derived, '.asl'];
   check(files === ends.map(end => 'Save my lab' + end).join(), 'files: ' + files);
   await run("document.getElementById('dialog').close()");
