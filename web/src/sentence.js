@@ -36,7 +36,8 @@ function blocked(bench, k, event, openWhy) {
   const { clashes } = bench.run.request(k, event.thread);
   if (!clashes.length) return [...told, '.'];
   const { thread, node, asks, holds } = clashes[0];
-  told.push(': it asks ', strong(asks), ` (${BRIEFLY[asks]}) at `, strong(bench.names.node(node)), ' ', whyLink(bench, event, openWhy));
+  told.push(': it asks ', strong(asks), ` (${BRIEFLY[asks]}) at `, strong(bench.names.node(node)), ' ', whyLink(bench, event, openWhy),
+    node.startsWith('class ') ? [' ', classLink(bench, Number(node.slice(6)), 'asks')] : '');
   told.push('; ', chip(thread), ' holds ', strong(holds), ` (${BRIEFLY[holds]}) there`);
   const since = sectionAt(bench.stretches, thread, k);
   if (since) told.push(' ', el('button',

@@ -49,6 +49,12 @@ await part('why one class: a line of a chain marks that line in the program, by 
   await run("document.querySelector('#locks [data-keep=class-tree-1]').click()"); await settled();
   check(await textOf('#class-name') === 'class 1', 'beside a class of the lock tree: ' + await textOf('#class-name'));
   await run("document.getElementById('class-close').click()"); await settled();
+  await open('#example=bank.asl&k=0&threads=2');
+  for (const name of ['0', 'I', '2', '2', 'Enter', '1', 'I', 'Enter', '0', '1']) await key(name);
+  await settled();
+  await run("document.querySelector('#say [data-keep^=class-asks]')?.click()"); await settled();
+  check(await isOpen() && (await textOf('#say')).includes(' at ' + await textOf('#class-name')), 'from the sentence of a blocked step: ' + await textOf('#say'));
+  await key('Escape'); await settled();
   check(!await isOpen(), 'its button closes it');
 });
 

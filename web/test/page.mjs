@@ -377,13 +377,19 @@ await part('keys', async () => {
 await part('refusals are shown at their place', async () => {
   await open('#example=counter.asl&k=3&threads=2&steps=0011&at=4');
   const source = readFileSync(EXAMPLES + 'counter.asl', 'utf8');
-  const cases = [[source.replace('y = x + one;', 'y = x + 1;'), 8, 13], [source.replace('x = *p;', 'x = *p'), 7, 5], [source.replace('*p = y', '*p = z'), 9, 10],
+  const cases = [[source.replace('y = x + one;', 'y = x + 1;'), 8, 13], [source.replace('x = *p;', 'x = *p'), 6, 11], [source.replace('*p = y;', '*p = y   '), 9, 11], [source.replace('*p = y', '*p = z'), 9, 10],
     [source.replace('atomic {', 'atomic { // comment'), 5, 12], [source.replace('return t;\n}', ''), 12, 1], [source.replace('global count;', 'global count; global count;'), 1, 22]];
   for (const [text, line, column] of cases) {
     await type(text);
     const said = await run("document.getElementById('complaint').textContent");
     check(said.includes(`Line ${line}, column ${column}:`), `${line}:${column} ${said.slice(0, 60)}`);
     check(await run("workbench.bench.run.length") === 4, 'the run stays');
+  }
+  await type(source.replace('x = *p;', 'x = *p'));
+  check(/`?;`? is missing at the end of this line/.test(await textOf('#complaint')) && await run("document.querySelector('#paint .refused').textContent") === '    x = *p', await textOf('#complaint'));
+  for (const [letter, told] of [['ö', 'ö (U+00F6) is not ASCII'], ['“', '“ (U+201C) is not ASCII'], ['😀', '😀 (U+1F600) is not ASCII'], ['\u200B', 'U+200B, which is not seen, is not ASCII'], ['\u00A0', 'U+00A0, which is not seen,']]) {
+    await type(source.replace('one = 1', letter + 'one = 1'));
+    check((await textOf('#complaint')).includes(`Line 7, column 5: ${told}`), `${letter}: ${(await textOf('#complaint')).slice(0, 90)}`);
   }
   await type(source.replace('x + one', 'one + x'));
   check(await run("document.getElementById('complaint').hidden") && await run('workbench.bench.run.length') === 4, 'compiles again, and the schedule is kept');
