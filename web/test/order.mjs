@@ -106,7 +106,7 @@ await part('the order: by keys from one of the four to the next, by a link, and 
   check(String(await at()) === '10,13' && await run("document.querySelectorAll('.order-mark').length") === 4, 'a click goes there, and the four stay');
   await key('ArrowRight'); await key('ArrowRight'); await key('ArrowRight'); await settled();
   check(/touches no cell/.test(await textOf('#s-order')), 'another event is one of its own: ' + await textOf('#s-order'));
-  const link = await run('location.hash');
+  const link = await run("(async () => { for (let i = 0; i < 60 && !/&order/.test(location.hash); i++) await new Promise(done => setTimeout(done, 50)); return location.hash; })()");
   check(/&order\b/.test(link), 'the link has it: ' + link);
   await key('Q'); await settled();
   check(await run("document.getElementById('s-order').hidden && !document.querySelector('.order-mark')"), 'Q turns it off');

@@ -2,7 +2,7 @@
 //   node --experimental-websocket web/test/pace.mjs [--firefox] [THREADS]        the least and the median of fifteen, in milliseconds
 // Where the browser tells it, what is measured is the processor's time of the page's thread, and how much of it are the script, the
 // styles, the layout, and all the rest, which is mostly painting. Of a step the toolchain may take at most 4 ms, and all at most 16 ms,
-// else it fails.
+// else it fails; also while the order of two events is told.
 import { loadavg } from 'node:os';
 import { browser, open, run } from './kit.mjs';
 
@@ -60,6 +60,12 @@ for (const count of COUNTS) {
   slow ||= step.toolchain > MOST_TOOLCHAIN || step.processor > MOST;
   console.log(`${await run('workbench.bench.run.length')} events made in ${made.toFixed(0)}`);
   console.log('    step', step.words);
+  await run(`workbench.bench.go(Infinity).then(() => ${key("'q'")})`);
+  await browser.sleep(500);
+  const told = await press(i => key(String(i % Math.min(THREADS, 8))));
+  slow ||= told.processor > MOST;
+  console.log('    step while the order of two events is told', told.words);
+  await run(key("'Q'"));
   console.log('    back', (await press(() => key("'ArrowLeft'"))).words);
   console.log('    forward', (await press(() => key("'ArrowRight'"))).words);
   console.log('    to the middle', (await press(i => `workbench.bench.go(${count} / 2 - ${Math.min(50, count / 40)} * ${i})`)).words);

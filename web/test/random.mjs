@@ -27,7 +27,7 @@ const CONDITIONS = ['some thread is blocked', 'all threads have ended', 'lists a
 const LOOKS = ['m', 'l', '+', '-', 'L', 'd', 'A', 'a', ' ', 'y', 'M', 'V'];
 const VIEWS = ['view=code,time,locks', 'view=heap,threads&size=13', 'lecture', 'lecture&size=25', 'theme=dark', 'view=time&lecture', 'keys=off&view=code'];
 // What a person may have as a file: each kind, whole and broken.
-const FILES = { 'mine.asl': 'global g; fn main(t) { p = &g; atomic { *p = t; } return t; }', 'bad.asl': 'fn main(t) { x = ; }',
+const FILES = { 'warned.asl': 'global g; fn f(p) { atomic { x = *p; } return x; } fn main(t) { p = &g; atomic { q = *p; y = *q; } return t; }', 'mine.asl': 'global g; fn main(t) { p = &g; atomic { *p = t; } return t; }', 'bad.asl': 'fn main(t) { x = ; }',
   'both.workbench': 'workbench 1\ntitle both.asl\nthreads 3\nsteps 0*3 1 2\nat 4\nnote 1 here\ntext\nglobal g; fn main(t) { p = &g; atomic { *p = t; } return t; }',
   'broken.workbench': 'workbench 1\nk 99\ntext\n', 'cut.img': 'ASLM\x00\x02', 'cut.run': '\x00\x00\x00\x05ASLMxx', 'list.asm': 'version 2\nclasses 1\nglobal 0\n' };
 const TEXTS = [' ', ';', '{', '}', 'x', 'global more;', 'atomic {', '<b>', '\n', '=', '*', '\u202e'];
@@ -53,6 +53,9 @@ const ACTIONS = [
   [2, () => browser.run(`document.getElementById('slide').value = ${below(400)}; document.getElementById('slide').dispatchEvent(new Event('input'))`)],
   [8, () => browser.strike(one(FURTHER))],
   [2, () => browser.strike(one(['v', 'P']))],
+  // why one class, and the order of two events: by keys, and their buttons
+  [4, () => browser.strike(one(['X', 'q', 'q', 'Q', 'ArrowDown', 'ArrowUp', 'Escape']))],
+  [2, () => browser.run(click('#s-classes button, #s-order button, #order, [data-keep^=class], #warnings .link'))],
   // a list by hand; an answer to a prediction, a choice, another button of a lesson or of the lists
   [4, () => browser.run(`(() => { const all = document.querySelectorAll('#own-lists textarea'), t = all[${below(100)} % all.length]; if (!t) return;
     t.focus(); t.value = ${JSON.stringify(one(LOCKS))}; t.dispatchEvent(new Event('input')); t.blur(); })()`)],
@@ -100,7 +103,7 @@ ACTIONS.push([2, () => browser.run(`(() => { const given = new DataTransfer(), n
     dispatchEvent(new DragEvent('drop', { dataTransfer: given, cancelable: true })); })()`)],
   [1, goBack],
   [3, async () => { await browser.strike('e'); await browser.typed(one(['x', 'global q;\n', '; ', '\n\n', 'y = t;'])); await browser.strike('Escape'); }],
-  [1, () => browser.strike(one(['C', 'J']))],
+  [1, async () => { await browser.strike(one(['C', 'J'])); await browser.sleep(20); await browser.strike(one(['Enter', 'Escape'])); }],
   [1, async () => { await browser.run("document.getElementById('rename').click()"); await browser.sleep(20); await browser.run(`(() => { const f = document.getElementById('asked'); if (f) f.value = 'name ${below(9)}'; })()`); await browser.strike('Enter'); }]);
 const whole = ACTIONS.reduce((sum, [weight]) => sum + weight, 0);
 function action() {

@@ -12,7 +12,7 @@ import { sectionAt } from '../stretches.js';
 const panel = { number: -1, all: false, told: null, of: '', at: '', enter: false };
 
 // What opens it, beside a class.
-export const classLink = (bench, number, keep, words = 'why one class') => (bench.kind !== 'asl' ? null
+export const classLink = (bench, number, keep, words = 'one class?') => (bench.kind !== 'asl' ? null
   : el('button', { class: 'link', 'data-keep': `class-${keep}-${number}`, title: `Why the objects of class ${number} are one class (X)`,
     onclick: () => openClass(bench, number) }, words));
 
