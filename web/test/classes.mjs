@@ -54,6 +54,8 @@ await part('why one class: a line of a chain marks that line in the program, by 
   await settled();
   await run("document.querySelector('#say [data-keep^=class-asks]')?.click()"); await settled();
   check(await isOpen() && (await textOf('#say')).includes(' at ' + await textOf('#class-name')), 'from the sentence of a blocked step: ' + await textOf('#say'));
+  await key('Escape'); await key('X'); await settled();
+  check((await textOf('#say')).includes(' at ' + await textOf('#class-name')), 'X opens the class where it is blocked: ' + await textOf('#class-name'));
   await key('Escape'); await settled();
   check(!await isOpen(), 'its button closes it');
 });

@@ -36,14 +36,19 @@ export function closeClass(bench) {
   return true;
 }
 
-// The class of the first lock on a class that the section of the shown event takes; behind it the next one, and so on.
+// Of the event that is shown the class where it is blocked, else the first that its section locks; else the first that any section locks.
+function classHere(bench) {
+  const { program, last, position, run } = bench, classOf = list => list?.find(lock => lock.kind === 'class')?.class;
+  const clash = last?.reply === 'blocked' && run.request(position - 1, last.thread).clashes.find(({ node }) => node.startsWith('class '));
+  if (clash) return Number(clash.node.slice(6));
+  const section = last && sectionAt(bench.stretches, last.thread, position), pc = section ? section.pc : last ? last.pc : -1;
+  return classOf(pc >= 0 && program.lists[listAt(program, pc)] || []) ?? classOf(program.lists.flat()) ?? 0;
+}
+// That class; behind it the next one, and so on.
 export function nextClass(bench) {
-  const { program, last } = bench, count = program?.classes || 0;
+  const count = bench.program?.classes || 0;
   if (!count) return note('The program has no class.');
-  if (panel.number >= 0) return openClass(bench, (panel.number + 1) % count);
-  const section = last && sectionAt(bench.stretches, last.thread, bench.position), pc = section ? section.pc : last ? last.pc : -1;
-  const list = program.lists[pc < 0 ? -1 : listAt(program, pc)] || program.lists.flat();
-  return openClass(bench, list.find(lock => lock.kind === 'class')?.class ?? 0);
+  return openClass(bench, panel.number >= 0 ? (panel.number + 1) % count : classHere(bench));
 }
 
 function mark(bench, place, line) {
