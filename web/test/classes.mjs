@@ -36,6 +36,7 @@ await part('why one class: a line of a chain marks that line in the program, by 
   check(await isOpen() && await run("document.activeElement.matches('#class-rows button')"), 'a button beside the list opens it, with the focus on a line');
   for (let n = 0; n < 2; n++) { await key('X'); await settled(); if ((await textOf('#class-name')) === 'class 0') break; }
   for (const how of ['ArrowDown', 'ArrowDown', 'click']) {
+    await run("document.getElementById('editor').scrollTop = 0"); await settled();
     if (how === 'click') await run("[...document.querySelectorAll('#class-rows .link')].at(-1).click()"); else await key(how);
     await settled();
     const at = await run("document.querySelector('#class-rows [aria-current]').textContent"), line = Number(/^line (\d+)/.exec(at)[1]);
