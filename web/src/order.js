@@ -13,7 +13,7 @@ const apart = (a, b) => APART.test(`${a} ${b}`) || APART.test(`${b} ${a}`);
 const order = { on: false, event: null, told: null, kept: -1, timer: 0, next: 0 };
 
 export const orderIsOn = () => order.on;
-export const isLooking = () => Boolean(order.on && order.told && !order.told.over);
+export const isLooking = () => order.timer > 0;
 export const orderTold = () => (order.on ? order.told : null);
 // The four events, in their order; fewer where there is no release and grant between.
 export const orderEvents = () => {
@@ -21,8 +21,12 @@ export const orderEvents = () => {
   return first === undefined ? [] : [...new Set([first, release, grant, second])].filter(k => k !== undefined);
 };
 
-export function setOrder(bench, on) {
+function rest() {
   clearTimeout(order.timer);
+  order.timer = 0;
+}
+export function setOrder(bench, on) {
+  rest();
   Object.assign(order, { on, event: null, told: null, kept: -1 });
   bench.changed('order');
 }
@@ -43,7 +47,7 @@ export function followOrder(bench) {
   const { run, position } = bench, { told } = order;
   if (!order.on || !run) return;
   if (told && order.event === run.events[told.second] && (position === order.kept || position === told.second + 1)) return;
-  clearTimeout(order.timer);
+  rest();
   const second = position - 1;
   Object.assign(order, { event: bench.last, told: { second, over: !position }, kept: -1, next: second - 1 });
   if (position) look(bench, run);
@@ -61,6 +65,7 @@ function look(bench, run) {
   else order.timer = setTimeout(() => lookOn(bench, run, told));
 }
 function lookOn(bench, run, told) {
+  order.timer = 0;
   if (bench.run !== run || order.told !== told || run.events[told.second] !== order.event) return;
   order.next--;
   look(bench, run);

@@ -32,7 +32,7 @@ await part('why one class: each class, by key, is told as the native program tel
 await part('why one class: a line of a chain marks that line in the program, by key and by click', async () => {
   const lines = readFileSync(EXAMPLES + 'bank.asl', 'utf8').split('\n');
   await open('#example=bank.asl&k=0&threads=2');
-  await run("document.querySelector('#sections [data-keep^=class-list]').click()"); await settled();
+  await run("(e => { e.focus(); e.click(); })(document.querySelector('#sections [data-keep^=class-list]'))"); await settled();
   check(await isOpen() && await run("document.activeElement.matches('#class-rows button')"), 'a button beside the list opens it, with the focus on a line');
   for (let n = 0; n < 2; n++) { await key('X'); await settled(); if ((await textOf('#class-name')) === 'class 0') break; }
   for (const how of ['ArrowDown', 'ArrowDown', 'click']) {
@@ -47,6 +47,7 @@ await part('why one class: a line of a chain marks that line in the program, by 
   }
   await key('ArrowUp'); await key('Escape'); await settled();
   check(!await isOpen() && String(await marked()) === ',', 'Escape closes it, and no line is marked');
+  check(await run("document.activeElement.matches('#sections [data-keep^=class-list]')"), 'and the focus is where it was opened');
   await run("document.querySelector('#locks [data-keep=class-tree-1]').click()"); await settled();
   check(await textOf('#class-name') === 'class 1', 'beside a class of the lock tree: ' + await textOf('#class-name'));
   await run("document.getElementById('class-close').click()"); await settled();

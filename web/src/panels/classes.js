@@ -9,7 +9,7 @@ import { note } from '../page.js';
 import { listAt } from '../program.js';
 import { sectionAt } from '../stretches.js';
 
-const panel = { number: -1, all: false, told: null, of: '', at: '', enter: false };
+const panel = { number: -1, all: false, told: null, of: '', at: '', enter: false, from: '' };
 
 // What opens it, beside a class.
 export const classLink = (bench, number, keep, words = 'one class?') => (bench.kind !== 'asl' ? null
@@ -17,6 +17,7 @@ export const classLink = (bench, number, keep, words = 'one class?') => (bench.k
     onclick: () => openClass(bench, number) }, words));
 
 export function openClass(bench, number, all = false) {
+  if (panel.number < 0) panel.from = document.activeElement?.dataset.keep || '';
   Object.assign(panel, { number, all, enter: true });
   if (!all) panel.at = '';
   return unlessDropped(ask(bench));
@@ -30,9 +31,11 @@ async function ask(bench) {
 // Answers whether there was something to close.
 export function closeClass(bench) {
   if (panel.number < 0) return false;
+  const within = byId('s-classes').contains(document.activeElement);
   Object.assign(panel, { number: -1, told: null });
   pointNowhere();
   bench.changed('classes');
+  if (within) document.querySelector(`[data-keep="${panel.from || 'none'}"]`)?.focus({ preventScroll: true });
   return true;
 }
 
@@ -111,5 +114,5 @@ export function drawClasses(bench) {
   if (!panel.enter || !panel.told) return;
   panel.enter = false;
   const first = byId('class-rows').querySelector('.link-of') || byId('class-rows').querySelector('button') || byId('class-close');
-  first.focus({ preventScroll: true });
+  Promise.resolve().then(() => first.focus({ preventScroll: true })); // (what is drawn keeps the focus where it was)
 }
