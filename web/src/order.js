@@ -5,6 +5,7 @@
 import { accessOf, conflict, isGrant, isRelease, touches } from './access.js';
 
 const SLICE = 4; // milliseconds of one look
+const NEAR = 400; // events
 // Modes that two threads do not hold at one node at once, each pair once.
 const APART = /^(IS X|IX S|IX SIX|IX X|S SIX|S X|SIX SIX|SIX X|X X)$/;
 const apart = (a, b) => APART.test(`${a} ${b}`) || APART.test(`${b} ${a}`);
@@ -40,6 +41,16 @@ export function nextOfOrder(bench) {
 export function goToOrder(bench, k) {
   order.kept = k + 1;
   return bench.go(k + 1);
+}
+
+// The last event before a position that is in conflict with an earlier one, both not far from it; -1 where there is none.
+export function lastInConflict(run, position) {
+  for (let second = position - 2; second >= Math.max(0, position - NEAR); second--) {
+    const own = accessOf(run, second), { thread } = run.events[second];
+    for (let k = second - 1; touches(own) && k >= Math.max(0, second - NEAR); k--)
+      if (run.events[k].thread !== thread && conflict(accessOf(run, k), own)) return second;
+  }
+  return -1;
 }
 
 // To be called when the page is drawn.

@@ -65,6 +65,10 @@ await part('the lists in a lecture: that of the section where the thread is bloc
   await key('v'); await browser.typed('expr r1 re'); await browser.sleep(250); await settled();
   const missing = await off(['#own-verdict', '#own-verdict b']);
   check(!missing.length && /refused: List of section 1/.test(await textOf('#own-verdict')), 'what is wrong with a list is in sight: ' + missing);
+  await browser.size(1920, 1080);
+  await open(link); await settled();
+  const hidden = await off(['.matrix.here thead', '.matrix.here tr.mine', '#locks tr']);
+  check(!hidden.length, 'at 1920 by 1080, below the lock tree, without a key: ' + hidden);
 });
 
 await part('a lesson in a lecture: its step, the lock tree and the lists on one screen', async () => {

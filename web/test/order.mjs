@@ -112,6 +112,11 @@ await part('the order: by keys from one of the four to the next, by a link, and 
   check(String(await at()) === '10,13' && await run("document.querySelectorAll('.order-mark').length") === 4, 'a click goes there, and the four stay');
   await key('ArrowRight'); await key('ArrowRight'); await key('ArrowRight'); await settled();
   check(/touches no cell/.test(await textOf('#s-order')), 'another event is one of its own: ' + await textOf('#s-order'));
+  await key('End'); await key('q'); await settled();
+  check(String(await at()) === '12,13' && /4 11 T1 reads/.test((await textOf('#s-order')).replace(/\s+/g, ' ')), 'q goes back to the last event in conflict: ' + await at());
+  await key('Home'); await key('q'); await settled();
+  check(/^No event before/.test(await textOf('#note')), await textOf('#note'));
+  await key('End'); await settled();
   const link = await run("(async () => { for (let i = 0; i < 60 && !/&order/.test(location.hash); i++) await new Promise(done => setTimeout(done, 50)); return location.hash; })()");
   check(/&order\b/.test(link), 'the link has it: ' + link);
   await key('Q'); await settled();

@@ -3,14 +3,16 @@
 
 import { byId, chip, el, renew, svg, withCode } from '../dom.js';
 import { accessOf } from '../access.js';
-import { followOrder, goToOrder, nextOfOrder, orderEvents, orderIsOn, orderTold, setOrder } from '../order.js';
+import { followOrder, goToOrder, lastInConflict, nextOfOrder, orderEvents, orderIsOn, orderTold, setOrder } from '../order.js';
 import { note } from '../page.js';
 
 export const toggleOrder = bench => setOrder(bench, !orderIsOn());
-// Turns it on, and then goes from one of the four to the next.
+// Turns it on, and then goes from one of the four to the next; where there are none, back to the last event that has some.
 export function orderKey(bench) {
   if (!orderIsOn()) return setOrder(bench, true);
-  if (!nextOfOrder(bench)) note('Show an event in conflict with an earlier one of another thread first.');
+  if (!bench.run || nextOfOrder(bench)) return null;
+  const k = lastInConflict(bench.run, bench.position);
+  return k < 0 ? note('No event before this one is in conflict with one of another thread.') : bench.go(k + 1);
 }
 
 // What an event does to the cell, or which node it gives back or is granted.
