@@ -22,7 +22,7 @@ import { drawLocks } from './panels/locks.js';
 import { drawThreads } from './panels/threads.js';
 import { drawHeap } from './panels/heap.js';
 import { drawEvents } from './panels/events.js';
-import { drawHere, drawSections } from './panels/sections.js';
+import { drawHere, drawSections, keepHere } from './panels/sections.js';
 import { closeClass } from './panels/classes.js';
 import { drawComparison, elsewhere } from './panels/comparison.js';
 import { Comparison } from './comparison.js';
@@ -62,8 +62,8 @@ function draw() {
   due.what = new Set();
   if (what.has('text') || what.has('size') || what.has('lists')) drawLists(what.has('lists'));
   what.delete('lists');
-  if (!what.size) return;
-  if (what.size === 1 && what.has('comparison')) return drawSentences();
+  if (!what.size) return drawFound();
+  if (what.size === 1 && what.has('comparison')) return drawCompared();
   if (what.has('text') || what.has('size') || what.has('rows')) { drawText(bench, openWhy); drawSettings(); drawNotes(bench); }
   if ([...what].every(name => PLACES.has(name))) { drawPlaces(bench, what.has('follow')); return lookAtDrawn(); }
   document.body.classList.toggle('no-run', !bench.run);
@@ -83,6 +83,18 @@ function draw() {
   due.address = setTimeout(writeAddress, 250);
 }
 
+// Lists that have come behind all else.
+function drawFound() {
+  if (bench.run) drawHere(bench);
+  lookAtDrawn();
+}
+// The comparison takes room above the lists once it is there.
+function drawCompared() {
+  const was = byId('comparison').hidden;
+  drawSentences();
+  if (was && bench.run) keepHere();
+  lookAtDrawn();
+}
 // The lists of all k come soon after a text; what stood there stays until then.
 function drawLists(atOnce) {
   clearTimeout(due.lists);
