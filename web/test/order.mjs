@@ -70,20 +70,21 @@ const TOLD = `(async places => { const told = [], frame = () => new Promise(done
   return told; })`;
 // Two sections of a thread behind the release, of which the first does not touch the cell.
 const TWO = 'global x; global y; fn main(t) { p = &x; q = &y; atomic { b = *q; } atomic { a = *p; *p = t; } return t; }';
-const RUNS = [['two.asl', 3, 2, 0, TWO, [...Array(12).fill(0), ...Array(12).fill(1)]], ['nested.asl', 3, 2, 1], ['counter.asl', 3, 2, 5], ['bank.asl', 0, 3, 2], ['queue.asl', 3, 3, 4], ['move.asl', 2, 2, 7], ['hash.asl', 3, 3, 3], ['tree.asl', 3, 2, 6]];
+const RUNS = [['two.asl', 3, 2, 0, TWO, [...Array(12).fill(0), ...Array(12).fill(1)]], ['nested.asl', 3, 2, 0, null, [...Array(45).fill(0), ...Array(30).fill(1)]], ['counter.asl', 3, 2, 5], ['bank.asl', 0, 3, 2], ['queue.asl', 3, 3, 4], ['move.asl', 2, 2, 7], ['hash.asl', 3, 3, 3], ['tree.asl', 3, 2, 6]];
 const STEPS = Number(process.env.STEPS || 200);
 
 await part('the order of two events in conflict is that of the native journal, at each position', async () => {
   let pairs = 0, handed = 0;
   for (const [name, k, threads, seed, text, steps] of RUNS) {
     await open(`#example=${text ? 'counter.asl' : name}&k=${k}&threads=${threads}&order`);
-    if (text) await run(`workbench.bench.load(${JSON.stringify({ text, kind: 'asl', title: name, k, threads, schedule: steps, position: 0, lesson: null })})`);
+    const source = text || readFileSync(EXAMPLES + name, 'utf8');
+    if (steps) await run(`workbench.bench.load(${JSON.stringify({ text: source, kind: 'asl', title: name, k, threads, schedule: steps, position: 0, lesson: null })})`);
     else {
       await run(`document.getElementById('seed').value = ${seed}; document.getElementById('most').value = ${STEPS}`);
       await key('R');
     }
     await settled();
-    const schedule = await run('workbench.bench.run.schedule'), source = text || readFileSync(EXAMPLES + name);
+    const schedule = await run('workbench.bench.run.schedule');
     const events = eventsOf(asl(['compile', '--text', '--k', k], source).toString(), asl(['compile', '--k', k], source), threads, schedule);
     const all = events.map((_, at) => at).filter(at => events[at].reads.length || events[at].writes.length || at % 7 === 0);
     const places = all.filter((_, i) => i % Math.ceil(all.length / 30) === 0);
