@@ -10,11 +10,19 @@ const SENTENCE = {
     + 'only fault; where the text lacks a line of yours it is a race.',
 };
 
+// The last member of the document. (All else of it may be large, and is of no use here.)
+const MEMBER = '"warnings":';
+function readWarnings(text) {
+  const at = text.lastIndexOf(MEMBER);
+  if (at < 0) throw new Error('the lists come without warnings');
+  return JSON.parse('{' + text.slice(at)).warnings;
+}
+
 // Of a source that the toolchain has accepted; nobody waits for it. Its places are bytes of a text of ASCII letters.
 export async function warningsOf(source, k) {
   if (!hasCommand('lists')) return [];
   const { text } = await listsText(source, k, true);
-  return !text ? [] : JSON.parse(text).warnings.map(({ warning, line, from, to, function: name }) => {
+  return !text ? [] : readWarnings(text).map(({ warning, line, from, to, function: name }) => {
     const statement = source.slice(from, to).split('\n')[0].slice(0, 60).replace(/;\s*$/, '').trim();
     return { line: line - 1, few: FEW[warning] || warning, words: SENTENCE[warning]?.({ function: name }, statement) || `${warning}.` };
   });
