@@ -93,7 +93,7 @@ await part('the order of two events in conflict is that of the native journal, a
       const wanted = orderOf(events, place), [row, marks] = told[i];
       pairs += wanted.length > 0; handed += wanted.length > 2;
       check(String(row) === String(wanted), `${name}, event ${place}: ${row} / ${wanted}`);
-      check(marks.every(mark => wanted.includes(mark)) && (!wanted.length || marks.includes(place)), `${name}, event ${place}: marked ${marks} of ${wanted}`);
+      check(String(marks) === String(wanted), `${name}, event ${place}: marked ${marks} of ${wanted}`);
     });
     check(events.every((_, place) => orderOf(events, place).length !== 2), name + ': each pair is ordered');
   }
@@ -124,7 +124,7 @@ await part('the order: by keys from one of the four to the next, by a link, and 
   check(await run("document.getElementById('s-order').hidden && !document.querySelector('.order-mark')"), 'Q turns it off');
   await open(link); await settled();
   check(!await run("document.getElementById('s-order').hidden"), 'the link brings it back');
-  for (const name of ['ArrowRight', 'ArrowLeft', 'ArrowLeft', 'ArrowLeft', '0', '1', '1']) await key(name);
+  for (const name of ['End', 'ArrowLeft', 'ArrowLeft', 'ArrowLeft', '0', '1', '1']) await key(name);
   await settled();
   const row = await run("[...document.querySelectorAll('#s-order button')].map(e => e.dataset.event)");
   check(String(row) === '7,9,11,12', 'on another branch it is that of its events: ' + row);

@@ -52,19 +52,24 @@ export function drawOrder(bench) {
   renew(box, content(bench, orderTold()));
 }
 
-// In the timeline: a ring and a number at each, an arrow from the release to the grant.
+// In the timeline: a ring and a number at each, at the edge the number alone of those out of sight, an arrow from the release to the
+// grant.
 export function orderMarks(bench, plan) {
   const told = orderTold(), { events } = bench.run, isSeen = k => k >= plan.from && k < plan.to && plan.lane[events[k].thread] >= 0;
   const size = Math.max(plan.mark * 1.5, 6), place = k => [plan.x(k), plan.y(events[k].thread)];
-  const rings = orderEvents().map((k, i) => {
-    if (!isSeen(k)) return null;
-    const [x, y] = place(k);
-    return svg('g', { key: 'order ' + i, class: 'order-mark', 'data-event': k }, svg('circle', { cx: x, cy: y, r: size }),
-      svg('circle', { cx: x + size, cy: y + size, r: 6.5, class: 'place' }),
-      svg('text', { x: x + size, y: y + size + 4, class: 'middle' }, i + 1));
-  });
-  if (told?.release === undefined || !isSeen(told.release) || !isSeen(told.grant)) return rings;
+  const marks = orderEvents().map((k, i) => (isSeen(k) ? ring(i, k, place(k), size)
+    : plan.isWindow && atEdge(plan, i, k, events[k].thread)));
+  if (told?.release === undefined || !isSeen(told.release) || !isSeen(told.grant)) return marks;
   const [x0, y0] = place(told.release), [x1, y1] = place(told.grant), way = Math.sign(y1 - y0);
   return [svg('path', { key: 'handed over', class: 'order-arrow', 'marker-end': 'url(#arrow-head)',
-    d: `M${x0},${y0 + way * size}L${x1},${y1 - way * (size + 2)}` }), rings];
+    d: `M${x0},${y0 + way * size}L${x1},${y1 - way * (size + 2)}` }), marks];
+}
+const badge = (i, x, y) => [svg('circle', { cx: x, cy: y, r: 6.5, class: 'place' }), svg('text', { x, y: y + 4, class: 'middle' }, i + 1)];
+const ring = (i, k, [x, y], size) => svg('g', { key: 'order ' + i, class: 'order-mark', 'data-event': k },
+  svg('circle', { cx: x, cy: y, r: size }), badge(i, x, y + size + 3));
+function atEdge(plan, i, k, thread) {
+  if (plan.lane[thread] < 0) return null;
+  const isLeft = k < plan.from, x = isLeft ? plan.left + 12 + 16 * i : plan.right - 60 + 16 * i, y = plan.y(thread) + plan.step * 0.3;
+  return svg('g', { key: 'order ' + i, class: 'order-mark away', 'data-event': k }, svg('title', {}, `event ${k}, out of sight`),
+    badge(i, x, y), svg('text', { x: isLeft ? x - 10 : x + 10, y: y + 4, class: 'middle way' }, isLeft ? '‹' : '›'));
 }
