@@ -114,5 +114,8 @@ export function drawClasses(bench) {
   if (!panel.enter || !panel.told) return;
   panel.enter = false;
   const first = byId('class-rows').querySelector('.link-of') || byId('class-rows').querySelector('button') || byId('class-close');
-  Promise.resolve().then(() => first.focus({ preventScroll: true })); // (what is drawn keeps the focus where it was)
+  Promise.resolve().then(() => { // (what is drawn keeps the focus where it was)
+    first.focus({ preventScroll: true });
+    box.scrollIntoView({ block: 'nearest' });
+  });
 }
