@@ -5,13 +5,10 @@ fn add(n) {
   one = 1;
   p = &total;
   q = &count;
+  w = square(n);
   atomic {
-    x = *p;
-    y = x + n;
-    *p = y;
-    c = *q;
-    d = c + one;
-    *q = d;
+    x = bump(p, w);
+    y = bump(q, one);
   }
   return x;
 }
@@ -20,5 +17,13 @@ fn read(of) {
   p = &total;
   if of { p = &count; }
   atomic { x = *p; }
+  return x;
+}
+
+fn square(n) { return n; }
+
+fn bump(p, w) {
+  x = *p;
+  *p = w;
   return x;
 }

@@ -1,9 +1,10 @@
-/* C that calls the functions of a source from threads of its own (docs/PARALLEL.md, "From C"). In the top folder of the repository:
+/* C that calls the functions of a source from threads of its own, and is called by it in place of two others (docs/PARALLEL.md, "From C").
+ * In the top folder of the repository:
  *
- *   ./asl c --entry add --entry read < examples/c/tally.asl > tally_text.c
+ *   ./asl c --entry add --entry read --extern square=squared --extern bump=bumped < examples/c/tally.asl > tally_text.c
  *   cc -O2 -pthread -DASLR_NO_MAIN -I include -I runtime tally_text.c examples/c/tally.c runtime/asl_*.c out/lib/libasl.a -o tally && ./tally
  *
- * Four threads add the numbers from 1 to 1,000 each, and the sum and how many they were are printed.
+ * Four threads add the squares of the numbers from 1 to 1,000 each, and the sum and how many they were are printed.
  * usage: tally */
 #include "asl_runtime.h"
 #include <pthread.h>
@@ -15,6 +16,24 @@ enum { THREADS = 4, NUMBERS = 1000 };
 /* the entries, as the printed text has them */
 aslr_value aslr_entry_add(aslr_thread *t, aslr_value n);
 aslr_value aslr_entry_read(aslr_thread *t, aslr_value of);
+
+/* in place of functions of the text */
+aslr_value squared(aslr_thread *t, aslr_value n);
+aslr_value bumped(aslr_thread *t, aslr_value p, aslr_value w);
+
+/* In place of `square`, which accesses nothing: what the language cannot say. */
+aslr_value squared(aslr_thread *t, aslr_value n) {
+  if (!aslr_is_int(n)) aslr_fault(t, ASLR_FAULT_TYPE);
+  uint32_t of = (uint32_t)aslr_int_of(n);
+  return aslr_int((int32_t)(of * of));
+}
+
+/* In place of `bump`, which loads and stores the cell of p: so the sections that call it hold that cell. */
+aslr_value bumped(aslr_thread *t, aslr_value p, aslr_value w) {
+  aslr_value old = aslr_load(t, p);
+  aslr_store(t, p, aslr_add(t, old, w));
+  return old;
+}
 
 static void fail(const char *why) {
   fprintf(stderr, "tally: %s\n", why);

@@ -1,3 +1,4 @@
+mod Externs
 mod Values
 mod Named
 mod Numbers

@@ -54,9 +54,11 @@ lists_app = with_rule (with_rule (new_app (codes "lists")) (value_rule (codes "k
 abbrev pub diagnose_app : App
 diagnose_app = with_rule (with_rule (new_app (codes "diagnose")) (value_rule (codes "k"))) (flag_rule (codes "asm"))
 
--- `c [--k K] [--check] [--entry F]..`
+-- `c [--k K] [--check] [--entry F].. [--extern F=NAME]..`
 abbrev pub c_app : App
-c_app = with_rule (with_rule (with_rule (new_app (codes "c")) (value_rule (codes "k"))) (flag_rule (codes "check"))) (values_rule (codes "entry"))
+c_app =
+    with_rule (with_rule (with_rule (with_rule (new_app (codes "c")) (value_rule (codes "k"))) (flag_rule (codes "check"))) (values_rule (codes "entry")))
+    (values_rule (codes "extern"))
 
 -- `asm`
 abbrev pub asm_app : App

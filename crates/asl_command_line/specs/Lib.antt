@@ -1,6 +1,7 @@
 pub mod Number
 pub mod Arguments
 pub mod Names
+pub mod Externs
 pub mod Pages
 pub mod Usage
 pub mod Words

@@ -16,7 +16,8 @@ use Rattle.asl_command_line.specs.declared.entry_words.EntriesFault.TheVariants 
 use Rattle.asl_command_line.specs.Number.{AreNumbers, IsNumber}
 use Rattle.asl_command_line.specs.Pages.{IsPageOf}
 use Rattle.asl_command_line.specs.Usage.{SaysWhereHelpIs}
-use Rattle.asl_command_line.specs.Words.{AreDebugWords, IsDebugWord, IsNoWord, TakesNumber, is_name}
+use Rattle.asl_command_line.specs.Words.{AreDebugWords, IsDebugWord, IsNoWord, TakesNumber}
+use Rattle.asl_command_line.specs.Names.{is_name}
 
 -- the words are no legal use, as this text says
 abbrev pub IsUsage : Text → Invocation → Type 0

@@ -1,9 +1,8 @@
 -- What the words of a command line ask for (docs/CLI.md, "Commands"). What `clap` makes of words
 -- is told by its own definitions: `fault_of` are the kinds of error that it may give, none where it takes the words, and
 -- `subcommand_of` is the command that they name, with the values of its arguments by their names.
-use Rattle.std.specs.Char.{is_ascii_alphabetic, is_ascii_alphanumeric}
-use Rattle.std.specs.Prelude.{string_bytes, map, ◌&&◌, ◌||◌, ◌==◌, ◌≡◌, ◌≢◌, ◌≤◌, ◌⊎◌, ℕ, Bool, true, false, List, [], ◌∷◌, ◌++◌, Option, None, Some, codes, unwrap_or, IfSome, IsSomeAnd, MatchOption}
-use Rattle.std.specs.List.{All, Contains, list_all}
+use Rattle.std.specs.Prelude.{string_bytes, map, ◌≡◌, ◌≢◌, ◌≤◌, ◌⊎◌, ℕ, Bool, true, false, List, [], ◌∷◌, ◌++◌, Option, None, Some, codes, unwrap_or, IfSome, IsSomeAnd, MatchOption}
+use Rattle.std.specs.List.{All, Contains}
 use Rattle.clap.specs.Words.{Kinds, IsAmong, Row, Text, all_of, fault_of, first_of, one_of, subcommand_of}
 use Rattle.clap.specs.declared.error.kind.ErrorKind.{ErrorKind}
 use Rattle.clap.specs.declared.error.kind.ErrorKind.TheVariants.{DisplayHelp, DisplayVersion}
@@ -17,7 +16,9 @@ use Rattle.asl_command_line.specs.declared.debug_word.DebugWord.TheVariants as w
 use Rattle.asl_command_line.specs.declared.debug_word.Move.TheVariants as move
 use Rattle.asl_command_line.specs.Number.{IsNumber, AreNumbers}
 use Rattle.asl_command_line.specs.Arguments.{asl_app}
-use Rattle.asl_command_line.specs.Names.{IsUnknown}
+use Rattle.asl_command_line.specs.declared.extern_words.WhyNot.{WhyNot}
+use Rattle.asl_command_line.specs.Externs.{AreExterns, IsWrongOf, why_text}
+use Rattle.asl_command_line.specs.Names.{IsUnknown, is_name}
 use Rattle.asl_command_line.specs.Pages.{IsPageOf}
 use Rattle.asl_command_line.specs.Usage.{SaysWhereHelpIs, a_length, a_length_or_auto, a_name, a_number, a_word, invalid_text, usage_text}
 
@@ -49,19 +50,6 @@ IsLengthAt rows k_limit = MatchOption (first_of (codes "k") rows) (k_limit ≡ 3
 abbrev pub IsLimitAt : List Row → Option ℕ → Type 0
 IsLimitAt rows None = first_of (codes "k") rows ≡ Some (codes "auto")
 IsLimitAt rows (Some k_limit) = IsLengthAt rows k_limit
-
--- a letter or `_`
-abbrev pub is_name_start : ℕ → Bool
-is_name_start byte = is_ascii_alphabetic byte || byte == 95
-
--- a letter, a digit or `_`
-abbrev pub is_name_byte : ℕ → Bool
-is_name_byte byte = is_ascii_alphanumeric byte || byte == 95
-
--- the text is a name of the source language, or one of its words
-abbrev pub is_name : Text → Bool
-is_name [] = false
-is_name (first ∷ rest) = is_name_start first && list_all is_name_byte rest
 
 -- the values of `--entry`, which are names
 abbrev pub AreEntriesAt : List Row → List Text → Type 0
@@ -105,8 +93,9 @@ IsCommand name rows (command.Lists k_limit entries) =
     (name ≡ codes "lists") × IsLimitAt rows k_limit × AreEntriesAt rows (map string_bytes entries.items)
 IsCommand name rows (command.Diagnose assembly k_limit) =
     (name ≡ codes "diagnose") × IsFlagAt (codes "asm") rows assembly × IsLengthAt rows k_limit
-IsCommand name rows (command.PrintC k_limit checks entries) =
+IsCommand name rows (command.PrintC k_limit checks entries externs) =
     (name ≡ codes "c") × IsLimitAt rows k_limit × IsFlagAt (codes "check") rows checks × AreEntriesAt rows (map string_bytes entries.items)
+    × AreExterns (words_at (codes "extern") rows) externs.items
 IsCommand name rows command.Replay = name ≡ codes "replay"
 IsCommand name rows (command.Log trace) = (name ≡ codes "log") × IsFlagAt (codes "trace") rows trace
 IsCommand name rows (command.Debug words) = (name ≡ codes "debug") × AreDebugWords (words_at (codes "words") rows) words.items
@@ -150,6 +139,13 @@ pub record TellsNoEntry (rows : List Row) (text : Text) : Type 0 where
   pub none : is_name word ≡ false
   pub text_is : text ≡ invalid_text word (codes "--entry <F>") a_name
 
+-- the text names one of the values of `--extern`, and what is wrong with it
+pub record TellsNoExtern (rows : List Row) (text : Text) : Type 0 where
+  pub word : Text
+  pub why : WhyNot
+  pub wrong : IsWrongOf (words_at (codes "extern") rows) word why
+  pub text_is : text ≡ invalid_text word (codes "--extern <F=NAME>") (why_text why)
+
 -- the word asks the debugger for nothing, alone and with another after it
 pub record IsNoWord (name : Text) : Type 0 where
   pub alone : (asked : DebugWord) → IsDebugWord (name ∷ []) asked → ⊥
@@ -180,7 +176,8 @@ IsMisused name rows text =
     ⊎ (TellsNoNumber (codes "workers") (codes "--workers <W>") rows text ⊎ TellsNoNumber (codes "limit") (codes "--limit <L>") rows text)))
     ⊎ (((name ≡ codes "debug") × AskNothing rows × TellsNoWord (words_at (codes "words") rows) text)
     ⊎ ((IsUnknown name × (text ≡ usage_text (codes "the command is unknown")))
-    ⊎ (((name ≡ codes "lists") ⊎ (name ≡ codes "c")) × (TellsNoLimit rows text ⊎ TellsNoEntry rows text))))))
+    ⊎ ((((name ≡ codes "lists") ⊎ (name ≡ codes "c")) × (TellsNoLimit rows text ⊎ TellsNoEntry rows text))
+    ⊎ ((name ≡ codes "c") × TellsNoExtern rows text))))))
 
 -- what the command of this name with these values asks for
 abbrev pub IsReading : Text → List Row → Invocation → Type 0

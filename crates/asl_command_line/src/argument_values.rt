@@ -2,14 +2,16 @@
 ghost use Rattle.std.specs.Prelude.{◌≡◌, ◌≤◌, ◌++◌, ℕ, map, Option, IfOk, IfErr, IfSome, MatchOption, codes, string_bytes};
 ghost use Rattle.clap.specs.Words.{found_of, rows_of};
 ghost use Rattle.asl_command_line.specs.Words.{AreDebugWords, AreEntriesAt, IsFlagAt, IsLengthAt, IsLimitAt, IsNumberAt, value_at, words_at};
+ghost use Rattle.asl_command_line.specs.Externs.{AreExterns, IsExternsFault};
 ghost use Rattle.asl_command_line.specs.Number.{AreNumbers, IsNumber};
 ghost use Rattle.asl_command_line.specs.Reading.{IsDebugWordsFault, IsEntriesFault, IsLimit, IsNamedNumber, IsNamedWord, IsNumbersFault, IsUsage};
 ghost use Rattle.asl_command_line.specs.Usage.{SaysWhereHelpIs, help_is_there, invalid_text, usage_text};
 
-use crate::command::Invocation;
+use crate::command::{Invocation, Replacement};
 use crate::debug_word::DebugWord;
 use crate::debug_words::{DebugWordsFault, debug_words};
 use crate::entry_words::{EntriesFault, entries};
+use crate::extern_words::{ExternsFault, externs};
 use crate::number_words::{NumbersFault, number, numbers};
 use crate::path_limit::PathLimit;
 use clap::ArgMatches;
@@ -135,6 +137,20 @@ pub(crate) fn entries_at<'a>(
 {
     match values.get_strs("entry") {
         Some(words) => entries(alloc, words),
+        None => Ok(Vec::new(alloc)),
+    }
+}
+
+/// The values of `--extern`.
+pub(crate) fn externs_at<'a>(
+    alloc: Global,
+    values: &ArgMatches<'a>,
+) -> Result<Vec<Replacement>, ExternsFault<'a>>
+    ensures ok { IfOk result (λ pairs. AreExterns (words_at (codes "extern") (rows_of (found_of values.now))) pairs.items) }
+    ensures err { IfErr result (IsExternsFault (words_at (codes "extern") (rows_of (found_of values.now)))) }
+{
+    match values.get_strs("extern") {
+        Some(words) => externs(alloc, words),
         None => Ok(Vec::new(alloc)),
     }
 }

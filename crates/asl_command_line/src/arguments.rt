@@ -96,7 +96,8 @@ fn c_command<'a>(alloc: Global) -> Result<Command<'a>, AllocError>
     let command = named(alloc, "c", "asl c")?;
     let command = with_argument(command, value(alloc, "k", "K"))?;
     let command = with_argument(command, flag(alloc, "check"))?;
-    with_argument(command, values(alloc, "entry", "F"))
+    let command = with_argument(command, values(alloc, "entry", "F"))?;
+    with_argument(command, values(alloc, "extern", "F=NAME"))
 }
 
 fn asm_command<'a>(alloc: Global) -> Result<Command<'a>, AllocError>

@@ -2,6 +2,15 @@
 use crate::debug_word::DebugWord;
 use crate::path_limit::PathLimit;
 
+/// A C function that is called in place of a function of the source.
+#[derive(Drop)]
+pub struct Replacement {
+    /// The function of the source.
+    pub function: String,
+    /// The C function.
+    pub name: String,
+}
+
 /// What is made of an input by one thread.
 #[derive(Drop)]
 pub enum Command {
@@ -63,6 +72,8 @@ pub enum Command {
         checks: bool,
         /// The functions that are called from outside, where the source has no `main`.
         entries: Vec<String>,
+        /// The C functions that are called in place of functions of the source.
+        externs: Vec<Replacement>,
     },
     /// `replay`: whether the input, a run file, is a run of its program.
     Replay,

@@ -202,10 +202,11 @@ pub const C: &str =
         Usage: asl c [OPTIONS]\n\
         \n\
         Options:\n\
-        \u{20}     --k <K>      How many operations a path of a lock has at most, 0 to 8, or auto: as many as are accepted; 3 where it is not given\n\
-        \u{20}     --check      Has the runtime look at each access: whether it is covered or fresh\n\
-        \u{20}     --entry <F>  A function that C calls, of a source without main; may be given more than once\n\
-        \u{20} -h, --help       Print help\n\
+        \u{20}     --k <K>            How many operations a path of a lock has at most, 0 to 8, or auto: as many as are accepted; 3 where it is not given\n\
+        \u{20}     --check            Has the runtime look at each access: whether it is covered or fresh\n\
+        \u{20}     --entry <F>        A function that C calls, of a source without main; may be given more than once\n\
+        \u{20}     --extern <F=NAME>  Calls the C function NAME in place of F, whose body says what it accesses; may be given more than once\n\
+        \u{20} -h, --help             Print help\n\
         \n\
         Input: a source (docs/SOURCE.md)\n\
         Output: a C program over runtime/asl_runtime.h (docs/PARALLEL.md)\n\
@@ -213,7 +214,7 @@ pub const C: &str =
         Examples, from the top of the repository:\n\
         \u{20} ./asl c < examples/bank.asl > bank.c\n\
         \u{20} ./asl c --k auto --check < examples/walk.asl > walk.c\n\
-        \u{20} ./asl c --entry add --entry read < examples/c/tally.asl > tally_text.c\n\
+        \u{20} ./asl c --entry add --entry read --extern square=squared --extern bump=bumped < examples/c/tally.asl > tally_text.c\n\
         \n\
         Status: 0 done; 1 refused, with one line 'asl: NAME' on standard error; 2 wrong usage.\n\
         \n\
@@ -221,6 +222,7 @@ pub const C: &str =
         \u{20} Read                            standard input failed\n\
         \u{20} TooLong                         the input is longer than 268435456 bytes\n\
         \u{20} NotAscii(n) .. TooManyLocks(r)  as for asl compile, of the source and what calls its entries\n\
+        \u{20} Unknown(x)                      a C function is to be called in place of x, and the source has no function x\n\
         \u{20} Write                           standard output failed; a part of the output may have been written\n\
         \u{20} OutOfMemory                     memory ran out\n\
         \n\

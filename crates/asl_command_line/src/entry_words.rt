@@ -2,7 +2,7 @@
 ghost use Rattle.std.specs.Prelude.{◌≡◌, true, map, string_bytes, IfOk, IfErr};
 ghost use Rattle.std.specs.List.{All, list_all};
 ghost use Rattle.clap.specs.Walk.{texts};
-ghost use Rattle.asl_command_line.specs.Words.{is_name, is_name_byte, is_name_start};
+ghost use Rattle.asl_command_line.specs.Names.{is_name, is_name_byte, is_name_start};
 ghost use Rattle.asl_command_line.specs.Reading.{IsEntriesFault};
 
 use std::alloc::Global;
@@ -37,7 +37,7 @@ fn are_name_bytes(bytes: &[u8]) -> bool
 }
 
 /// Whether the word is a name.
-fn is_name(word: &str) -> bool
+pub(crate) fn is_name(word: &str) -> bool
     ensures { result ≡ is_name word.now }
 {
     match word.as_bytes().split_first() {

@@ -9,13 +9,14 @@ mod compile_help;
 mod debug_word;
 mod debug_words;
 mod entry_words;
+mod extern_words;
 mod help;
 mod number_words;
 mod path_limit;
 mod reading;
 mod run_help;
 
-pub use command::{Command, Invocation, RunArguments};
+pub use command::{Command, Invocation, Replacement, RunArguments};
 pub use debug_word::{DebugWord, Move};
 pub use path_limit::PathLimit;
 pub use reading::read_words;

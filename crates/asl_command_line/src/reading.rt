@@ -1,20 +1,22 @@
 //! Reads the words of a command line.
 ghost use Rattle.std.specs.Prelude.{◌≡◌, ◌≢◌, true, map, IfOk, string_bytes, codes};
 ghost use Rattle.clap.specs.Words.{found_of, kind_of, rows_of, subcommand_rows_of};
-ghost use Rattle.asl_command_line.specs.Words.{AsksFor, IsLimitAt, IsReading, IsTaken};
+ghost use Rattle.asl_command_line.specs.Externs.{why_text};
+ghost use Rattle.asl_command_line.specs.Words.{AreEntriesAt, AsksFor, IsLimitAt, IsReading, IsTaken};
 ghost use Rattle.asl_command_line.specs.Reading.{IsRefusal, IsUsage};
 ghost use Rattle.asl_command_line.specs.Usage.{SaysWhereHelpIs, a_name, invalid_text};
 
 use crate::apart::read_apart;
 use crate::argument_values::{
     A_NAME, A_NUMBER, A_PATH_LIMIT, A_PATH_LIMIT_OR_AUTO, A_WORD, HELP_IS_THERE, debug_words_at,
-    entries_at, flag_at, invalid, k_limit_at, number_at, numbers_at, some_k_limit_at, with_help,
-    wrong_usage,
+    entries_at, externs_at, flag_at, invalid, k_limit_at, number_at, numbers_at, some_k_limit_at,
+    with_help, wrong_usage,
 };
 use crate::arguments::program;
 use crate::command::{Command, Invocation, RunArguments};
 use crate::debug_words::DebugWordsFault;
 use crate::entry_words::EntriesFault;
+use crate::extern_words::{ExternsFault, WhyNot, why_text};
 use crate::help::page_of;
 use crate::number_words::{NumbersFault, number};
 use crate::path_limit::PathLimit;
@@ -229,17 +231,43 @@ fn read_c_entries(
     ensures { IfOk result (IsReading (codes "c") (rows_of (found_of values.now))) }
 {
     match entries_at(alloc, values) {
-        Ok(entries) => {
+        Ok(entries) => read_c_externs(alloc, values, k_limit, entries),
+        Err(EntriesFault::NoName(word)) => no_entry(alloc, word),
+        Err(EntriesFault::OutOfMemory) => Err(AllocError),
+    }
+}
+
+/// What `c` is asked for, with paths of this length and these entries.
+fn read_c_externs(
+    alloc: Global,
+    values: &ArgMatches<'_>,
+    k_limit: Option<PathLimit>,
+    entries: Vec<String>,
+) -> Result<Invocation, AllocError>
+    requires length { IsLimitAt (rows_of (found_of values.now)) k_limit }
+    requires entries { AreEntriesAt (rows_of (found_of values.now)) (map string_bytes entries.items) }
+    ensures { IfOk result (IsReading (codes "c") (rows_of (found_of values.now))) }
+{
+    match externs_at(alloc, values) {
+        Ok(externs) => {
             let checks = flag_at(values, "check");
             Ok(Invocation::Alone(Command::PrintC {
                 k_limit,
                 checks,
                 entries,
+                externs,
             }))
         }
-        Err(EntriesFault::NoName(word)) => no_entry(alloc, word),
-        Err(EntriesFault::OutOfMemory) => Err(AllocError),
+        Err(ExternsFault::NoExtern(word, why)) => no_extern(alloc, word, why),
+        Err(ExternsFault::OutOfMemory) => Err(AllocError),
     }
+}
+
+/// Says why the word is no pair of a function and a C function.
+fn no_extern(alloc: Global, word: &str, why: WhyNot) -> Result<Invocation, AllocError>
+    ensures { IfOk result (IsUsage (invalid_text word.now (codes "--extern <F=NAME>") (why_text why))) }
+{
+    invalid(alloc, word, "--extern <F=NAME>", why_text(why))
 }
 
 fn read_log(values: &ArgMatches<'_>) -> Invocation

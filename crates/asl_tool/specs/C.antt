@@ -1,7 +1,9 @@
 -- What the command `c` answers (docs/PARALLEL.md).
 use Rattle.std.specs.declared.alloc.Global.{Global}
-use Rattle.std.specs.Prelude.{◌≡◌, ◌⊎◌, ◌++◌, ℕ, Bool, List, [], ◌∷◌, Option, None, Some, String, Vec, codes, encode_utf8_all, map as each, string_bytes}
+use Rattle.std.specs.Prelude.{◌≡◌, ◌≢◌, ◌<◌, ◌⊎◌, ◌++◌, take, Contains, ℕ, Bool, List, [], ◌∷◌, Option, None, Some, String, Vec, codes, encode_utf8_all, map as each, string_bytes}
 use Rattle.asl_code.specs.declared.image.Image.{Image}
+use Rattle.asl_command_line.specs.declared.command.Replacement.{Replacement}
+use Rattle.asl_syntax.specs.declared.fault.SyntaxFault.TheVariants as syntax
 use Rattle.asl_emitter.specs.declared.fault.InferFault.TheVariants as infer
 use Rattle.asl_lists.specs.declared.driver.Entry.{Entry}
 use Rattle.asl_lists.specs.Driver.{AreEntries, driver}
@@ -37,10 +39,17 @@ abbrev pub AreLocals : List (Vec (List ℕ) Global) → List (Vec (String Global
 AreLocals registers locals =
     each (λ (names : Vec (String Global) Global). each string_bytes names.items) locals ≡ each (λ (names : Vec (List ℕ) Global). each encode_utf8_all names.items) registers
 
--- the text has the names of the map, and C calls these functions; no C function stands for one of the program
-pub record AreOptions (m : Map) (checks : Bool) (entries : List (List ℕ)) (o : Options) : Type 0 where
+-- the function of the source, and the C function in its place
+abbrev pub replaced : Replacement → List ℕ
+replaced r = string_bytes r.function
+
+abbrev pub c_function : Replacement → List ℕ
+c_function r = string_bytes r.name
+
+-- the text has the names of the map, C calls these functions, and its own in place of these
+pub record AreOptions (m : Map) (checks : Bool) (entries : List (List ℕ)) (externs : List Replacement) (o : Options) : Type 0 where
   pub checked : o.checks ≡ checks
-  pub own : o.externs.items ≡ []
+  pub in_place : AreFound m (each replaced externs) (each c_function externs) o.externs.items
   pub called : AreFound m entries (each c_entry entries) o.entries.items
   pub names : each string_bytes o.names.items ≡ each function_words m.functions.items
   pub locals : AreLocals m.registers.items o.locals.items
@@ -48,11 +57,11 @@ pub record AreOptions (m : Map) (checks : Bool) (entries : List (List ℕ)) (o :
 -- ---- the text
 
 -- the text is that of the source's program, with the names of the source
-pub record IsPrintedFor (source : List ℕ) (checks : Bool) (entries : List (List ℕ)) (image : Image) (text : List ℕ) : Type 0 where
+pub record IsPrintedFor (source : List ℕ) (checks : Bool) (entries : List (List ℕ)) (externs : List Replacement) (image : Image) (text : List ℕ) : Type 0 where
   pub is : Map
   pub mapped : IsMapped source is
   pub options : Options
-  pub are_options : AreOptions is checks entries options
+  pub are_options : AreOptions is checks entries externs options
   pub written : text ≡ c_text image options
 
 -- the program is inferred for the source, with paths of the length that is asked for, or else of the greatest that is accepted
@@ -60,19 +69,20 @@ abbrev pub IsProgramAt : List ℕ → Option ℕ → Image → Type 0
 IsProgramAt source k image = (n : ℕ) × IsLength source k n × IsProgramFor source n image
 
 -- the output is the text of the program that is inferred for a source with a `main`
-pub record IsPrintedWhole (source : List ℕ) (k : Option ℕ) (checks : Bool) (entries : List (List ℕ)) (output : List ℕ) : Type 0 where
+pub record IsPrintedWhole (source : List ℕ) (k : Option ℕ) (checks : Bool) (entries : List (List ℕ)) (externs : List Replacement) (output : List ℕ) : Type 0 where
   pub image : Image
   pub program : IsProgramAt source k image
-  pub written : IsPrintedFor source checks entries image output
+  pub written : IsPrintedFor source checks entries externs image output
 
 -- so of the source with what calls its entries
-abbrev pub IsPrintedEntries : List ℕ → Option ℕ → Bool → List (List ℕ) → List ℕ → Type 0
-IsPrintedEntries source k checks names output = (es : List Entry) × AreEntries names es × IsPrintedWhole (source ++ driver es) k checks names output
+abbrev pub IsPrintedEntries : List ℕ → Option ℕ → Bool → List (List ℕ) → List Replacement → List ℕ → Type 0
+IsPrintedEntries source k checks names externs output =
+    (es : List Entry) × AreEntries names es × IsPrintedWhole (source ++ driver es) k checks names externs output
 
 -- the text of the source, where no entries are named
-abbrev pub IsPrinted : List ℕ → Option ℕ → Bool → List (List ℕ) → List ℕ → Type 0
-IsPrinted source k checks [] output = IsPrintedWhole source k checks [] output
-IsPrinted source k checks (name ∷ names) output = IsPrintedEntries source k checks (name ∷ names) output
+abbrev pub IsPrinted : List ℕ → Option ℕ → Bool → List (List ℕ) → List Replacement → List ℕ → Type 0
+IsPrinted source k checks [] externs output = IsPrintedWhole source k checks [] externs output
+IsPrinted source k checks (name ∷ names) externs output = IsPrintedEntries source k checks (name ∷ names) externs output
 
 -- ---- refusals
 
@@ -81,16 +91,31 @@ abbrev pub IsTooMany : CommandFault → Type 0
 IsTooMany (fault.Infer (infer.TooManyLocks region)) = Unit {0}
 IsTooMany f = ⊥
 
--- what each refusal says of a source with a `main`: it is that of the length that is asked for; where none is, too many locks are needed
+-- why no program is inferred for the source: it is the refusal of the length that is asked for; where none is, too many locks are needed
 -- even with no path
-abbrev pub IsRefusedWhole : List ℕ → Option ℕ → CommandFault → Type 0
-IsRefusedWhole source None f = (n : ℕ) × IsLength source None n × IsRefusedSource source n f × (IsTooMany f → n ≡ 0)
-IsRefusedWhole source (Some k) f = IsRefusedSource source k f
+abbrev pub IsRefusedAt : List ℕ → Option ℕ → CommandFault → Type 0
+IsRefusedAt source None f = (n : ℕ) × IsLength source None n × IsRefusedSource source n f × (IsTooMany f → n ≡ 0)
+IsRefusedAt source (Some k) f = IsRefusedSource source k f
+
+-- a C function is to be called in place of a function that the map does not have: a source has at most 256. The refusal tells at most 64
+-- bytes of its name
+abbrev pub IsUnknownIn : Map → List Replacement → CommandFault → Type 0
+IsUnknownIn m externs f =
+    (r : Replacement) × Contains externs r × (f ≡ fault.Source (syntax.Unknown (take 64 (replaced r)))) × ((function : ℕ) → function < 256 → function_name m function ≢ Some (replaced r))
+
+-- so of the map of the source
+abbrev pub IsUnknownOf : List ℕ → List Replacement → CommandFault → Type 0
+IsUnknownOf source externs f = (m : Map) × IsMapped source m × IsUnknownIn m externs f
+
+-- what each refusal says of a source with a `main`
+abbrev pub IsRefusedWhole : List ℕ → Option ℕ → List Replacement → CommandFault → Type 0
+IsRefusedWhole source k externs f = IsRefusedAt source k f ⊎ IsUnknownOf source externs f
 
 -- so of the source with what calls its entries; of lack of memory for that nothing is said
-abbrev pub IsRefusedEntries : List ℕ → Option ℕ → List (List ℕ) → CommandFault → Type 0
-IsRefusedEntries source k names f = (f ≡ fault.OutOfMemory) ⊎ ((es : List Entry) × AreEntries names es × IsRefusedWhole (source ++ driver es) k f)
+abbrev pub IsRefusedEntries : List ℕ → Option ℕ → List (List ℕ) → List Replacement → CommandFault → Type 0
+IsRefusedEntries source k names externs f =
+    (f ≡ fault.OutOfMemory) ⊎ ((es : List Entry) × AreEntries names es × IsRefusedWhole (source ++ driver es) k externs f)
 
-abbrev pub IsRefusedPrinting : List ℕ → Option ℕ → List (List ℕ) → CommandFault → Type 0
-IsRefusedPrinting source k [] f = IsRefusedWhole source k f
-IsRefusedPrinting source k (name ∷ names) f = IsRefusedEntries source k (name ∷ names) f
+abbrev pub IsRefusedPrinting : List ℕ → Option ℕ → List (List ℕ) → List Replacement → CommandFault → Type 0
+IsRefusedPrinting source k [] externs f = IsRefusedWhole source k externs f
+IsRefusedPrinting source k (name ∷ names) externs f = IsRefusedEntries source k (name ∷ names) externs f

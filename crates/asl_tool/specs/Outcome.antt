@@ -49,5 +49,5 @@ IsSettled command.Map = ⊥
 IsSettled (command.Explain k_limit all classes) = ⊥
 IsSettled (command.Lists k_limit entries) = ⊥
 IsSettled (command.Diagnose assembly k_limit) = ⊥
-IsSettled (command.PrintC k_limit checks entries) = ⊥
+IsSettled (command.PrintC k_limit checks entries externs) = ⊥
 IsSettled c = Unit {0}

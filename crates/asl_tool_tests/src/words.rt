@@ -18,7 +18,7 @@ enum Wanted {
     Explain(u32, bool, bool),
     Lists(Option<u32>, usize),
     Diagnose(bool, u32),
-    PrintC(Option<u32>, bool, usize),
+    PrintC(Option<u32>, bool, usize, usize),
     Debug(&'static [DebugWord]),
     Assemble,
     Disassemble,
@@ -70,8 +70,9 @@ fn is_command(got: &Command, wanted: &Wanted) -> bool {
             k_limit,
             checks,
             entries,
+            externs,
         } => {
-            matches!(wanted, Wanted::PrintC(k, flag, count) if limit_of(k_limit) == *k && checks == flag && entries.len() == *count)
+            matches!(wanted, Wanted::PrintC(k, flag, count, more) if limit_of(k_limit) == *k && checks == flag && entries.len() == *count && externs.len() == *more)
         }
         Command::Diagnose { assembly, k_limit } => {
             matches!(wanted, Wanted::Diagnose(is_assembly, k) if assembly == is_assembly && k_limit.operations() == *k)
@@ -315,7 +316,7 @@ fn compiling(rt: HostRuntime) {
     check(&rt, &COMPILATIONS);
 }
 
-static CHECKS: [Row; 32] = [
+static CHECKS: [Row; 34] = [
     ("check", Wanted::Check(3)),
     ("check --k 0", Wanted::Check(0)),
     ("check --k=8", Wanted::Check(8)),
@@ -344,12 +345,17 @@ static CHECKS: [Row; 32] = [
     ("lists --k Auto", Wanted::WrongUsage),
     ("lists --entry 1f", Wanted::WrongUsage),
     ("lists f", Wanted::WrongUsage),
-    ("c", Wanted::PrintC(Some(3), false, 0)),
-    ("c --check --k 0", Wanted::PrintC(Some(0), true, 0)),
+    ("c", Wanted::PrintC(Some(3), false, 0, 0)),
+    ("c --check --k 0", Wanted::PrintC(Some(0), true, 0, 0)),
     (
         "c --entry f --k auto --entry _g1",
-        Wanted::PrintC(None, false, 2),
+        Wanted::PrintC(None, false, 2, 0),
     ),
+    (
+        "c --extern f=g --extern _h=f",
+        Wanted::PrintC(Some(3), false, 0, 2),
+    ),
+    ("c --extern f", Wanted::WrongUsage),
     ("c --k 9", Wanted::WrongUsage),
     ("c --entry 1f", Wanted::WrongUsage),
     ("c --text", Wanted::WrongUsage),

@@ -1,16 +1,17 @@
 //! The command `c`: from a source to the C program of the program that is inferred for it.
-ghost use Rattle.std.specs.Prelude.{◌≡◌, ◌≤◌, map, IfOk, IfErr, IfSome, OnOk, string_bytes};
-ghost use Rattle.asl_tool.specs.C.{IsPrinted, IsPrintedEntries, IsPrintedFor, IsPrintedWhole, IsRefusedEntries, IsRefusedPrinting, IsRefusedWhole};
+ghost use Rattle.std.specs.Prelude.{◌≡◌, ◌⊎◌, ◌≤◌, map, IfOk, IfErr, IfSome, OnOk, string_bytes};
+ghost use Rattle.asl_tool.specs.declared.command_fault.CommandFault.TheVariants as CommandFault;
+ghost use Rattle.asl_tool.specs.C.{IsPrinted, IsPrintedEntries, IsPrintedFor, IsPrintedWhole, IsRefusedEntries, IsRefusedPrinting, IsRefusedWhole, IsUnknownOf};
 
 use crate::command_fault::CommandFault;
 use crate::commands::c_names::options_of;
 use crate::commands::greatest::program_at;
 use asl_code::Program;
-use asl_command_line::PathLimit;
+use asl_command_line::{PathLimit, Replacement};
 use asl_lists::with_entries;
 use asl_map::map_of;
 use asl_parallel_c::put_program;
-use std::alloc::{AllocError, Global};
+use std::alloc::Global;
 
 /// How many operations a path has at most, if that is limited.
 fn limit_of(k_limit: &Option<PathLimit>) -> Option<u32>
@@ -29,13 +30,14 @@ pub fn printed(
     k_limit: &Option<PathLimit>,
     checks: bool,
     entries: &[String],
+    externs: &[Replacement],
     source: &[u8],
 ) -> Result<Vec<u8>, CommandFault>
-    ensures ok { IfOk result (λ text. IsPrinted source.now k_limit.now checks (map string_bytes entries.now) text.items) }
-    ensures err { IfErr result (λ fault. IsRefusedPrinting source.now k_limit.now (map string_bytes entries.now) fault) }
+    ensures ok { IfOk result (λ text. IsPrinted source.now k_limit.now checks (map string_bytes entries.now) externs.now text.items) }
+    ensures err { IfErr result (λ fault. IsRefusedPrinting source.now k_limit.now (map string_bytes entries.now) externs.now fault) }
 {
     let limit = limit_of(k_limit);
-    printed_at(alloc, limit, checks, entries, source)
+    printed_at(alloc, limit, checks, entries, externs, source)
 }
 
 /// The same with paths of at most so many operations.
@@ -44,16 +46,17 @@ fn printed_at(
     k: Option<u32>,
     checks: bool,
     entries: &[String],
+    externs: &[Replacement],
     source: &[u8],
 ) -> Result<Vec<u8>, CommandFault>
     requires { IfSome k (λ n. n ≤ 8) }
-    ensures ok { IfOk result (λ text. IsPrinted source.now k checks (map string_bytes entries.now) text.items) }
-    ensures err { IfErr result (λ fault. IsRefusedPrinting source.now k (map string_bytes entries.now) fault) }
+    ensures ok { IfOk result (λ text. IsPrinted source.now k checks (map string_bytes entries.now) externs.now text.items) }
+    ensures err { IfErr result (λ fault. IsRefusedPrinting source.now k (map string_bytes entries.now) externs.now fault) }
 {
     if entries.is_empty() {
-        return printed_whole(alloc, k, checks, entries, source);
+        return printed_whole(alloc, k, checks, entries, externs, source);
     }
-    printed_entries(alloc, k, checks, entries, source)
+    printed_entries(alloc, k, checks, entries, externs, source)
 }
 
 /// The same of a source with entries.
@@ -62,14 +65,15 @@ fn printed_entries(
     k: Option<u32>,
     checks: bool,
     entries: &[String],
+    externs: &[Replacement],
     source: &[u8],
 ) -> Result<Vec<u8>, CommandFault>
     requires { IfSome k (λ n. n ≤ 8) }
-    ensures ok { IfOk result (λ text. IsPrintedEntries source.now k checks (map string_bytes entries.now) text.items) }
-    ensures err { IfErr result (λ fault. IsRefusedEntries source.now k (map string_bytes entries.now) fault) }
+    ensures ok { IfOk result (λ text. IsPrintedEntries source.now k checks (map string_bytes entries.now) externs.now text.items) }
+    ensures err { IfErr result (λ fault. IsRefusedEntries source.now k (map string_bytes entries.now) externs.now fault) }
 {
     match with_entries(alloc, source, entries) {
-        Ok(whole) => printed_whole(alloc, k, checks, entries, &whole.text),
+        Ok(whole) => printed_whole(alloc, k, checks, entries, externs, &whole.text),
         Err(_) => Err(CommandFault::OutOfMemory),
     }
 }
@@ -80,34 +84,36 @@ fn printed_whole(
     k: Option<u32>,
     checks: bool,
     entries: &[String],
+    externs: &[Replacement],
     source: &[u8],
 ) -> Result<Vec<u8>, CommandFault>
     requires { IfSome k (λ n. n ≤ 8) }
-    ensures ok { IfOk result (λ text. IsPrintedWhole source.now k checks (map string_bytes entries.now) text.items) }
-    ensures err { IfErr result (λ fault. IsRefusedWhole source.now k fault) }
+    ensures ok { IfOk result (λ text. IsPrintedWhole source.now k checks (map string_bytes entries.now) externs.now text.items) }
+    ensures err { IfErr result (λ fault. IsRefusedWhole source.now k externs.now fault) }
 {
     let program = program_at(alloc, k, source)?;
-    match text_of(alloc, source, &program, checks, entries) {
-        Ok(text) => Ok(text),
-        Err(_) => Err(CommandFault::OutOfMemory),
-    }
+    text_of(alloc, source, &program, checks, entries, externs)
 }
 
-/// The text of the program of an accepted source, which may be refused only where memory runs out.
+/// The text of the program of an accepted source, which may be refused only where memory runs out, or it lacks a function.
 fn text_of(
     alloc: Global,
     source: &[u8],
     program: &Program,
     checks: bool,
     entries: &[String],
-) -> Result<Vec<u8>, AllocError>
-    ensures { IfOk result (λ text. IsPrintedFor source.now checks (map string_bytes entries.now) program.now text.items) }
+    externs: &[Replacement],
+) -> Result<Vec<u8>, CommandFault>
+    ensures ok { IfOk result (λ text. IsPrintedFor source.now checks (map string_bytes entries.now) externs.now program.now text.items) }
+    ensures err { IfErr result (λ fault. (fault ≡ CommandFault.OutOfMemory) ⊎ IsUnknownOf source.now externs.now fault) }
 {
     let Ok(map) = map_of(alloc, source) else {
-        return Err(AllocError);
+        return Err(CommandFault::OutOfMemory);
     };
-    let options = options_of(alloc, &map, checks, entries)?;
+    let options = options_of(alloc, &map, checks, entries, externs)?;
     let mut text = Vec::new(alloc);
-    put_program(alloc, &mut text, program, &options)?;
-    Ok(text)
+    match put_program(alloc, &mut text, program, &options) {
+        Ok(()) => Ok(text),
+        Err(_) => Err(CommandFault::OutOfMemory),
+    }
 }

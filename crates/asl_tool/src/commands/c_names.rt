@@ -1,22 +1,50 @@
 //! What the C text of a source's program is to be like: the names of the source, and the functions that C calls.
-ghost use Rattle.std.specs.Prelude.{◌≡◌, ◌≢◌, ◌<◌, ℕ, [], Some, encode_utf8_all, map, IfOk, IfSome, IfNone, MatchBool, string_bytes};
+ghost use Rattle.std.specs.Prelude.{◌≡◌, ◌≢◌, ◌⊎◌, ◌<◌, take, IfErr, ℕ, [], Some, encode_utf8_all, map, IfOk, IfSome, IfNone, MatchBool, string_bytes};
 ghost use Rattle.asl_map.specs.Names.{function_name};
-ghost use Rattle.asl_tool.specs.C.{AreLocals, c_entry, function_words};
+ghost use Rattle.asl_syntax.specs.declared.fault.SyntaxFault.TheVariants as SyntaxFault;
+ghost use Rattle.asl_tool.specs.declared.command_fault.CommandFault.TheVariants as CommandFault;
+ghost use Rattle.asl_tool.specs.C.{AreLocals, AreOptions, IsUnknownIn, c_entry, c_function, function_words, replaced};
 
+use crate::command_fault::CommandFault;
+use asl_command_line::Replacement;
 use asl_map::{Map, Named};
 use asl_parallel_c::{Extern, Options};
-use asl_syntax::Name;
+use asl_syntax::{Name, SyntaxFault};
 use std::alloc::{AllocError, Global};
 
-/// What the text of the program of a map's source is to be like, where C calls these functions.
+/// What the text of the program of a map's source is to be like, where C calls these functions, and its own in place of these.
+///
+/// # Errors
+///
+/// `Unknown` of a function in whose place a C function is to be called, and which the source does not have; `OutOfMemory` where an
+/// allocation failed.
 pub fn options_of(
     alloc: Global,
     source_map: &Map,
     checks: bool,
     entries: &[String],
+    externs: &[Replacement],
+) -> Result<Options, CommandFault>
+    ensures ok { IfOk result (λ options. AreOptions source_map.now checks (map string_bytes entries.now) externs.now options) }
+    ensures err { IfErr result (λ fault. (fault ≡ CommandFault.OutOfMemory) ⊎ IsUnknownIn source_map.now externs.now fault) }
+{
+    let externs = externs_of(alloc, source_map, externs)?;
+    match own_options_of(alloc, source_map, checks, entries, externs) {
+        Ok(options) => Ok(options),
+        Err(_) => Err(CommandFault::OutOfMemory),
+    }
+}
+
+/// The same with these C functions.
+fn own_options_of(
+    alloc: Global,
+    source_map: &Map,
+    checks: bool,
+    entries: &[String],
+    externs: Vec<Extern>,
 ) -> Result<Options, AllocError>
     ensures checked { IfOk result (λ options. options.checks ≡ checks) }
-    ensures own { IfOk result (λ options. options.externs.items ≡ []) }
+    ensures in_place { IfOk result (λ options. options.externs ≡ externs) }
     ensures functions { IfOk result (λ options. map (λ (e : Extern). function_name source_map.now e.function) options.entries.items ≡ map (λ name. Some name) (map string_bytes entries.now)) }
     ensures in_c { IfOk result (λ options. map (λ (e : Extern). string_bytes e.name) options.entries.items ≡ map c_entry (map string_bytes entries.now)) }
     ensures names { IfOk result (λ options. map string_bytes options.names.items ≡ map function_words source_map.now.functions.items) }
@@ -24,11 +52,44 @@ pub fn options_of(
 {
     Ok(Options {
         checks,
-        externs: Vec::new(alloc),
+        externs,
         entries: entries_of(alloc, source_map, entries)?,
         names: names_of(alloc, &source_map.functions)?,
         locals: locals_of(alloc, &source_map.registers)?,
     })
+}
+
+/// The functions in whose place these C functions are called.
+fn externs_of(
+    alloc: Global,
+    source_map: &Map,
+    externs: &[Replacement],
+) -> Result<Vec<Extern>, CommandFault>
+    ensures functions { IfOk result (λ found. map (λ (e : Extern). function_name source_map.now e.function) found.items ≡ map (λ name. Some name) (map replaced externs.now)) }
+    ensures in_c { IfOk result (λ found. map (λ (e : Extern). string_bytes e.name) found.items ≡ map c_function externs.now) }
+    ensures err { IfErr result (λ fault. (fault ≡ CommandFault.OutOfMemory) ⊎ IsUnknownIn source_map.now externs.now fault) }
+{
+    let mut found = Vec::new(alloc);
+    for one in externs {
+        let Some(function) = function_of(source_map, one.function.as_bytes()) else {
+            return Err(unknown(one.function.as_bytes()));
+        };
+        let Ok(name) = String::from_str(alloc, one.name.as_str()) else {
+            return Err(CommandFault::OutOfMemory);
+        };
+        if found.push(Extern { function, name }).is_err() {
+            return Err(CommandFault::OutOfMemory);
+        }
+    }
+    Ok(found)
+}
+
+/// The refusal of a function that the source does not have: it tells at most 64 bytes of the name.
+fn unknown(name: &[u8]) -> CommandFault
+    ensures { result ≡ CommandFault.Source (SyntaxFault.Unknown (take 64 name.now)) }
+{
+    let told = name.len().min(64);
+    CommandFault::Source(SyntaxFault::Unknown(Name::from_slice(&name[..told])))
 }
 
 /// Whether the function of this number is there, and has the name.

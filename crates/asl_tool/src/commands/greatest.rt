@@ -1,6 +1,6 @@
 //! The program of a source, with the longest paths with which it is accepted.
 ghost use Rattle.std.specs.Prelude.{◌≤◌, None, IfOk, IfErr, IfSome, MatchBool};
-ghost use Rattle.asl_tool.specs.C.{IsProgramAt, IsRefusedWhole, IsTooMany};
+ghost use Rattle.asl_tool.specs.C.{IsProgramAt, IsRefusedAt, IsTooMany};
 
 use crate::command_fault::CommandFault;
 use crate::commands::compile::program_of;
@@ -21,7 +21,7 @@ fn is_too_many(fault: &CommandFault) -> bool
 /// The program with the longest paths with which no region needs too many locks.
 fn greatest(alloc: Global, source: &[u8]) -> Result<Program, CommandFault>
     ensures ok { IfOk result (λ program. IsProgramAt source.now None program) }
-    ensures err { IfErr result (λ fault. IsRefusedWhole source.now None fault) }
+    ensures err { IfErr result (λ fault. IsRefusedAt source.now None fault) }
 {
     let mut k = 8;
     loop {
@@ -41,7 +41,7 @@ fn greatest(alloc: Global, source: &[u8]) -> Result<Program, CommandFault>
 pub fn program_at(alloc: Global, k: Option<u32>, source: &[u8]) -> Result<Program, CommandFault>
     requires { IfSome k (λ n. n ≤ 8) }
     ensures ok { IfOk result (λ program. IsProgramAt source.now k program) }
-    ensures err { IfErr result (λ fault. IsRefusedWhole source.now k fault) }
+    ensures err { IfErr result (λ fault. IsRefusedAt source.now k fault) }
 {
     match k {
         None => greatest(alloc, source),

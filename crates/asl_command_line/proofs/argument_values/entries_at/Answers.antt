@@ -5,7 +5,7 @@ use Rattle.std.proofs.lemmas.Result.{IfOk-weaker}
 use Rattle.clap.specs.Words.{Text, found_of}
 use Rattle.clap.specs.Walk.{texts}
 use Rattle.asl_command_line.specs.Reading.{IsEntriesFault}
-use Rattle.asl_command_line.specs.Words.{is_name}
+use Rattle.asl_command_line.specs.Names.{is_name}
 use Rattle.asl_command_line.proofs.Values.{some_words, none_words}
 use Rattle.asl_command_line.proofs.argument_values.entries_at.Goals as goal
 

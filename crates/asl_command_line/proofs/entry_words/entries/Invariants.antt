@@ -2,7 +2,7 @@
 use Rattle.std.proofs.Common.{◌≡◌, true, map, take, string_bytes}
 use Rattle.std.specs.List.{All}
 use Rattle.clap.specs.Walk.{texts}
-use Rattle.asl_command_line.specs.Words.{is_name}
+use Rattle.asl_command_line.specs.Names.{is_name}
 use Rattle.asl_command_line.proofs.entry_words.entries.Given as goal
 
 abbrev pub invariant-loop-word : goal.invariant-loop-word
