@@ -5,7 +5,7 @@ use Rattle.asl_class_reasons.specs.declared.place.Step.{Step}
 use Rattle.asl_class_reasons.specs.declared.search.Visit.{Visit}
 use Rattle.asl_class_reasons.specs.Reasons.{IsChain}
 use Rattle.asl_class_reasons.specs.Chains.{IsSearch}
-use Rattle.asl_class_reasons.proofs.search.Chains.links.Given as goal
+use Rattle.asl_class_reasons.proofs.search.Search.links.Given as goal
 
 abbrev pub invariant-loop-at : goal.invariant-loop-at
 invariant-loop-at l = record {

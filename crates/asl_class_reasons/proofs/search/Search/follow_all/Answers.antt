@@ -1,17 +1,17 @@
 use Rattle.std.proofs.Common.{◌≡◌, ℕ, true, false, sym, ap, ◌∙◌, subst, arith}
 use Rattle.std.specs.Prelude.{sum_by}
 use Rattle.std.proofs.lemmas.Option.{slice_get_within}
-use Rattle.asl_class_reasons.specs.declared.search.Chains.{Chains}
+use Rattle.asl_class_reasons.specs.declared.search.Search.{Search}
 use Rattle.asl_class_reasons.specs.Chains.{unseen, IsEven}
 use Rattle.asl_class_reasons.proofs.Chaining.{one_even}
-use Rattle.asl_class_reasons.proofs.search.Chains.follow_all.Goals as goal
-use Rattle.asl_class_reasons.proofs.search.Chains.follow_all.Goals.{then-branch, else-branch}
+use Rattle.asl_class_reasons.proofs.search.Search.follow_all.Goals as goal
+use Rattle.asl_class_reasons.proofs.search.Search.follow_all.Goals.{then-branch, else-branch}
 
 pub loop-index-preserved : goal.loop-index-preserved
 loop-index-preserved c =
     let i = c.loop-index.invariant in
     let e = c.in_ok-follow.ensures in
-    let left : Chains → ℕ = λ t. sum_by unseen t.at.items in
+    let left : Search → ℕ = λ t. sum_by unseen t.at.items in
     record {
       search = e.search;
       from = e.from ∙ i.from;
@@ -28,8 +28,8 @@ loop-index-preserved c =
         | else-branch w ↦ (
             let same = e.same w.if-branch.false in
             one_even c.follow.new.self c.args.steps.now c.loop-index.index
-            (λ n s low at. subst (λ (x : Chains). IsEven x s) (sym same) (i.even (sym w.more-is ∙ t) n s low at))
-            (λ s at. subst (λ (x : Chains). IsEven x s) (sym same) (e.even w.if-branch.false s at)))
+            (λ n s low at. subst (λ (x : Search). IsEven x s) (sym same) (i.even (sym w.more-is ∙ t) n s low at))
+            (λ s at. subst (λ (x : Search). IsEven x s) (sym same) (e.even w.if-branch.false s at)))
       ];
     }
 

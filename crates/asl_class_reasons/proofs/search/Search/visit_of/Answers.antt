@@ -1,6 +1,6 @@
 use Rattle.std.proofs.Common.{◌<◌, refl, arith}
 use Rattle.asl_class_reasons.proofs.Searching.{entry_seen, found_at}
-use Rattle.asl_class_reasons.proofs.search.Chains.visit_of.Goals as goal
+use Rattle.asl_class_reasons.proofs.search.Search.visit_of.Goals as goal
 
 pub returns-else-at-eq0-clause-some : goal.returns-else-at-eq0-clause-some
 returns-else-at-eq0-clause-some c =

@@ -4,10 +4,10 @@ use Rattle.asl_class_reasons.specs.declared.place.Place.TheVariants as place
 use Rattle.asl_class_reasons.specs.declared.place.Cause.TheVariants as cause
 use Rattle.asl_class_reasons.specs.declared.place.Step.{Step}
 use Rattle.asl_class_reasons.specs.declared.search.Visit.{Visit}
-use Rattle.asl_class_reasons.specs.declared.search.Chains.{Chains}
+use Rattle.asl_class_reasons.specs.declared.search.Search.{Search}
 use Rattle.asl_class_reasons.specs.Chains.{seen}
 use Rattle.asl_class_reasons.proofs.Searching.{entry_seen, reached_forth, reached_back, search_visited, fewer_left}
-use Rattle.asl_class_reasons.proofs.search.Chains.follow.Goals as goal
+use Rattle.asl_class_reasons.proofs.search.Search.follow.Goals as goal
 
 -- the step that is read
 abbrev none : Step
@@ -15,7 +15,7 @@ none = record { cause = cause.Instruction 0; from = place.Member 0; into = place
 
 pub returns-then-from-eq0-clause-search : goal.returns-then-from-eq0-clause-search
 returns-then-from-eq0-clause-search c =
-    let t : Chains = c.args.self.now in
+    let t : Search = c.args.self.now in
     let h = c.requires.search in
     let step : Step = get_or c.args.steps.now c.args.index none in
     let at : slice_get c.args.steps.now c.args.index ≡ Some step = slice_get-get_or c.args.steps.now c.args.index none c.requires.there in
@@ -28,7 +28,7 @@ returns-then-from-eq0-clause-search c =
 
 pub returns-then-from-eq0-clause-less : goal.returns-then-from-eq0-clause-less
 returns-then-from-eq0-clause-less c = λ _. (
-    let t : Chains = c.args.self.now in
+    let t : Search = c.args.self.now in
     let h = c.requires.search in
     let step : Step = get_or c.args.steps.now c.args.index none in
     let at : slice_get c.args.steps.now c.args.index ≡ Some step = slice_get-get_or c.args.steps.now c.args.index none c.requires.there in
@@ -39,7 +39,7 @@ returns-then-from-eq0-clause-less c = λ _. (
 
 pub returns-then-into-gt0-clause-even : goal.returns-then-into-gt0-clause-even
 returns-then-into-gt0-clause-even c = λ _ s e. (
-    let t : Chains = c.args.self.now in
+    let t : Search = c.args.self.now in
     let h = c.requires.search in
     let step : Step = get_or c.args.steps.now c.args.index none in
     let at : slice_get c.args.steps.now c.args.index ≡ Some step = slice_get-get_or c.args.steps.now c.args.index none c.requires.there in
@@ -60,7 +60,7 @@ visit-requires-2-clause-there c =
 
 pub returns-clause-search : goal.returns-clause-search
 returns-clause-search c =
-    let t : Chains = c.args.self.now in
+    let t : Search = c.args.self.now in
     let h = c.requires.search in
     let step : Step = get_or c.args.steps.now c.args.index none in
     let at : slice_get c.args.steps.now c.args.index ≡ Some step = slice_get-get_or c.args.steps.now c.args.index none c.requires.there in
@@ -73,7 +73,7 @@ returns-clause-search c =
 
 pub returns-clause-less : goal.returns-clause-less
 returns-clause-less c = λ _. (
-    let t : Chains = c.args.self.now in
+    let t : Search = c.args.self.now in
     let h = c.requires.search in
     let step : Step = get_or c.args.steps.now c.args.index none in
     let at : slice_get c.args.steps.now c.args.index ≡ Some step = slice_get-get_or c.args.steps.now c.args.index none c.requires.there in

@@ -1,6 +1,6 @@
 use Rattle.std.proofs.Common.{◌≡◌, rules, refl}
 use Rattle.asl_class_reasons.proofs.Chaining.{none_joined}
-use Rattle.asl_class_reasons.proofs.search.Chains.chain_to.Goals as goal
+use Rattle.asl_class_reasons.proofs.search.Search.chain_to.Goals as goal
 
 pub returns-in-None-clause-none : goal.returns-in-None-clause-none
 returns-in-None-clause-none c = λ steps h _. (

@@ -2,7 +2,7 @@
 use Rattle.std.proofs.Common.{◌≡◌}
 use Rattle.std.specs.Prelude.{sum_by}
 use Rattle.asl_class_reasons.specs.Chains.{unseen, IsSearch}
-use Rattle.asl_class_reasons.proofs.search.Chains.complete.Given as goal
+use Rattle.asl_class_reasons.proofs.search.Search.complete.Given as goal
 
 abbrev pub invariant-loop : goal.invariant-loop
 invariant-loop l = record {

@@ -2,11 +2,11 @@ use Rattle.std.proofs.Common.{◌≡◌, ◌<◌, ℕ, List, Some, slice_get, sy
 use Rattle.std.specs.Prelude.{reverse}
 use Rattle.asl_class_reasons.specs.declared.place.Link.{Link}
 use Rattle.asl_class_reasons.specs.declared.search.Visit.{Visit}
-use Rattle.asl_class_reasons.specs.declared.search.Chains.{Chains}
+use Rattle.asl_class_reasons.specs.declared.search.Search.{Search}
 use Rattle.asl_class_reasons.specs.Reasons.{IsChain}
 use Rattle.asl_class_reasons.proofs.Searching.{reads}
 use Rattle.asl_class_reasons.proofs.Chaining.{one_visit, walked, goes_back}
-use Rattle.asl_class_reasons.proofs.search.Chains.links.Goals as goal
+use Rattle.asl_class_reasons.proofs.search.Search.links.Goals as goal
 
 pub loop-at-init : goal.loop-at-init
 loop-at-init c = record {
@@ -16,7 +16,7 @@ loop-at-init c = record {
 
 pub loop-at-preserved : goal.loop-at-preserved
 loop-at-preserved c =
-    let t : Chains = c.args.self.now in
+    let t : Search = c.args.self.now in
     let at : ℕ = c.loop-at.at in
     let here : Visit = c.index-here.result.now in
     let i = c.loop-at.invariant in
@@ -30,7 +30,7 @@ loop-at-preserved c =
 
 pub loop-at-smaller : goal.loop-at-smaller
 loop-at-smaller c =
-    let t : Chains = c.args.self.now in
+    let t : Search = c.args.self.now in
     let at : ℕ = c.loop-at.at in
     let here : Visit = c.index-here.result.now in
     let some : 0 < at = (let test = c.loop-at-test.true in omega arith) in

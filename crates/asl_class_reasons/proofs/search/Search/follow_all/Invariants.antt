@@ -3,7 +3,7 @@ use Rattle.std.proofs.Common.{◌≡◌, ◌<◌, ◌≤◌, ℕ, true, false, S
 use Rattle.std.specs.Prelude.{sum_by}
 use Rattle.asl_class_reasons.specs.declared.place.Step.{Step}
 use Rattle.asl_class_reasons.specs.Chains.{unseen, IsSearch, IsEven}
-use Rattle.asl_class_reasons.proofs.search.Chains.follow_all.Given as goal
+use Rattle.asl_class_reasons.proofs.search.Search.follow_all.Given as goal
 
 abbrev pub invariant-loop-index : goal.invariant-loop-index
 invariant-loop-index l = record {
