@@ -45,7 +45,7 @@ pub record IsDisassembled (bytes text : List ℕ) : Type 0 where
 
 -- the explanation of the source's lists, or the text of its classes
 abbrev pub IsExplained : List ℕ → ℕ → Bool → Bool → List ℕ → Type 0
-IsExplained input k_limit all false text = IsText input k_limit text
+IsExplained input k_limit all false text = IsText input k_limit all text
 IsExplained input k_limit all true text = IsClassText input all text
 
 -- the output of each command for an input
