@@ -15,12 +15,12 @@ next_first class xs n d x low is =
     ∙ ap (λ (k : ℕ). if has_class class x then Some n else first_section class k (drop (n + 1) xs)) (sym (add-one n))
 
 pub first_more : (class : ℕ) (xs : List (List Listed)) (n : ℕ) (d x : List Listed) → n < length xs → x ≡ get_or xs n d → has_class class x ≡ false → first_section class n (drop n xs) ≡ first_section class 0 xs → first_section class (n + 1) (drop (n + 1) xs) ≡ first_section class 0 xs
-first_more class xs n d x low is no so =
-    sym (next_first class xs n d x low is ∙ chosen (has_class class x) false (Some n) (first_section class (n + 1) (drop (n + 1) xs)) no) ∙ so
+first_more class xs n d x low is off so =
+    sym (next_first class xs n d x low is ∙ chosen (has_class class x) false (Some n) (first_section class (n + 1) (drop (n + 1) xs)) off) ∙ so
 
 pub first_here : (class : ℕ) (xs : List (List Listed)) (n : ℕ) (d x : List Listed) → n < length xs → x ≡ get_or xs n d → has_class class x ≡ true → first_section class n (drop n xs) ≡ first_section class 0 xs → Some n ≡ first_section class 0 xs
-first_here class xs n d x low is yes so =
-    sym (next_first class xs n d x low is ∙ chosen (has_class class x) true (Some n) (first_section class (n + 1) (drop (n + 1) xs)) yes) ∙ so
+first_here class xs n d x low is on so =
+    sym (next_first class xs n d x low is ∙ chosen (has_class class x) true (Some n) (first_section class (n + 1) (drop (n + 1) xs)) on) ∙ so
 
 pub first_none : (class : ℕ) (xs : List (List Listed)) (n : ℕ) → length xs ≤ n → first_section class n (drop n xs) ≡ first_section class 0 xs → None ≡ first_section class 0 xs
 first_none class xs n past so = sym (at_drop_all (λ (l : List (List Listed)). first_section class n l) xs n past) ∙ so

@@ -105,5 +105,6 @@ fn push_lock(
     text.push_str(teller.before_spelling(function, &listed.lock)?.as_str())?;
     push_assembly(text, &listed.lock)?;
     text.push_str(teller.behind_spelling(function, listed)?.as_str())?;
-    push_lock_block(teller.alloc, text, classes, section, &listed.lock)
+    push_lock_block(teller.alloc, text, classes, section, &listed.lock)?;
+    Ok(())
 }
