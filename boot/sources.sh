@@ -4,7 +4,7 @@
 # the logic in which the program says that it was proved
 logic=dac8208d650f15bf
 # the crates that the library for C is made of
-c_crates=(asl_c_forest asl_c_commands asl_c_sessions)
+c_crates=(asl_c_forest asl_c_commands asl_c_programs asl_c_sessions)
 
 # crates_below NAME..: these crates and those of the repository below them, lowest first, each with those of them that it stands on
 crates_below() {

@@ -11,17 +11,21 @@ class Checking:
         self.analysis = Analysis(Lowered(text), k)
         self.own = inferred(text, k)
 
-    def refusal(self, image):
-        """The name of why the image is not checked for the text; None where it is."""
+    def refusals(self, image):
+        """The names of all why the image is not checked for the text, in the order in which it is judged: none where it is."""
         pc = other_code(self.own, image)
         if pc is not None:
-            return f"OtherCode({pc})"
+            return [f"OtherCode({pc})"]
+        # (a cell may be read by several expressions of a list)
+        return list(dict.fromkeys(f"{name}({number}, {lock.text()})" for name, number, lock in self.lacking(image)))
+
+    def lacking(self, image):
+        """Each lock that the list of a section of the image lacks: why, the number of the section, the lock."""
         for name, locks_of in [("Uncovered", needed), ("Unguarded", read)]:
             for number, section in enumerate(self.analysis.lowered.sections):
                 for lock in locks_of(self.analysis, image, number):
                     if not any(stands_over(self.analysis, section.function, over, lock) for over in image.lists[number]):
-                        return f"{name}({number}, {lock.text()})"
-        return None
+                        yield name, number, lock
 
 
 def other_code(own, image):

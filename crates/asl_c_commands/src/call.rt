@@ -2,13 +2,14 @@
 ghost use Rattle.std.specs.Prelude.{◌≡◌, Ok, Err, length, IfOk, IfErr, OnOk, MatchOption, IsUtf8};
 ghost use Rattle.asl_c_memory.specs.Buffer.{Holds};
 ghost use Rattle.asl_tool.specs.Ending.{ending_text};
+ghost use Rattle.asl_tool.specs.FaultLine.{fault_lines};
 ghost use Rattle.asl_tool.specs.Memory.{EndsOver};
 ghost use Rattle.asl_c_commands.specs.Words.{words_of};
 ghost use Rattle.asl_c_commands.specs.Called.{SaysWhyNot, IsAnswered};
 
 use crate::call_words::split;
 use asl_c_memory::put_front;
-use asl_tool::{Ended, Ending, ended_over, line_of};
+use asl_tool::{Ended, Ending, ToolFault, ended_over, line_of, lines_of};
 use std::alloc::Global;
 
 /// The words are not UTF-8.
@@ -63,6 +64,17 @@ fn hand_over(text: &[u8], buffer: &mut [u8]) -> usize
     text.len()
 }
 
+/// Puts what is told of a fault into the buffer, as far as there is room, and answers how long it is.
+fn say_fault(fault: &ToolFault, errors: &mut [u8]) -> usize
+    ensures front { Holds (fault_lines fault.now) errors.old errors.new }
+    ensures length { result ≡ length (fault_lines fault.now) }
+{
+    match lines_of(fault) {
+        Some(lines) => hand_over(lines, errors),
+        None => hand_over(line_of(fault).as_slice(), errors),
+    }
+}
+
 /// Puts what is said of an ending into the buffer, as far as there is room, and answers how long it is. No memory is wanted.
 fn say(ending: &Ending, errors: &mut [u8]) -> usize
     ensures front { Holds (ending_text ending.now) errors.old errors.new }
@@ -70,7 +82,7 @@ fn say(ending: &Ending, errors: &mut [u8]) -> usize
 {
     match ending {
         Ending::Done => hand_over(b"", errors),
-        Ending::Refused(fault) => hand_over(line_of(fault).as_slice(), errors),
+        Ending::Refused(fault) => say_fault(fault, errors),
         Ending::WrongUsage(text) => hand_over(text.as_str().as_bytes(), errors),
     }
 }

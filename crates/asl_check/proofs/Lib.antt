@@ -3,6 +3,9 @@ pub mod Covering
 pub mod Judging
 pub mod Reading
 pub mod Guarding
+pub mod Bare
+pub mod AllLacks
 pub mod Concluding
 pub mod Complete
 pub mod Outcomes
+pub mod Telling

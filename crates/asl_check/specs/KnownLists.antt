@@ -1,17 +1,20 @@
 -- Machinery of the proofs, not of the promise: what is known of lists by the parts of a flow (src/covered.rt, src/lacking.rt).
-use Rattle.std.specs.Prelude.{◌≡◌, ◌<◌, ◌⊎◌, ◌+◌, ℕ, List, Option, Some, slice_get}
+use Rattle.std.specs.Prelude.{◌≡◌, ◌<◌, ◌↔◌, ◌⊎◌, ◌+◌, ℕ, List, [], ◌∷◌, Option, Some, length, slice_get}
 use Rattle.std.specs.declared.cmp.Ordering.TheVariants.{Less}
 use Rattle.asl_code.specs.declared.lock.Lock.{Lock}
 use Rattle.asl_lower.specs.declared.section.Section.{Section}
 use Rattle.asl_lower.specs.Lowered.{Lowered}
 use Rattle.asl_lower.specs.Regions.{Inside}
 use Rattle.asl_points_to.specs.Classes.{Classed}
-use Rattle.asl_lock_expr.specs.Order.{lock_cmp}
+use Rattle.asl_lock_expr.specs.Links.{IsOne}
+use Rattle.asl_lock_expr.specs.Order.{lock_cmp, AreInOrder}
+use Rattle.asl_backward_flow.specs.Closed.{Family}
 use Rattle.asl_backward_flow.specs.Needed.{RegionNeeds, IsInNeeds, IsTold}
 use Rattle.asl_emitter.specs.Lists.{Locks, IsFree}
 use Rattle.asl_check.specs.declared.fault.CheckFault.{CheckFault}
 use Rattle.asl_check.specs.declared.fault.CheckFault.TheVariants.{Uncovered, Unguarded}
 use Rattle.asl_check.specs.Checked.{IsUnderOne, AreUnder, LacksFirst, IsFirstOpen}
+use Rattle.asl_check.specs.Missing.{NamesLack, StandsBefore, IsAmong, AreInTurn}
 
 -- a lock comes before the one of the number, if there is one
 abbrev pub ComesFirst : List Lock → Option ℕ → Lock → Type 0
@@ -51,3 +54,35 @@ IsUncovered l c parts lists fault = ⊥
 abbrev pub IsUnguarded : Lowered → Classed → List (List Lock) → CheckFault → Type 0
 IsUnguarded l c lists (Unguarded section lock) = IsFirstOpen l c lists section lock
 IsUnguarded l c lists fault = ⊥
+
+-- the first that is wrong with lists, by the parts of the flow
+abbrev pub IsFirstLack : Lowered → Classed → List RegionNeeds → List (List Lock) → CheckFault → Type 0
+IsFirstLack l c parts lists (Uncovered section lock) = IsBare l c parts lists section lock
+IsFirstLack l c parts lists (Unguarded section lock) = AreCovered l c parts lists (length l.sections) × IsFirstOpen l c lists section lock
+IsFirstLack l c parts lists fault = ⊥
+
+-- each of these locks first stands in the list before all later ones
+abbrev pub StandInTurn : List Lock → List Lock → Type 0
+StandInTurn locks [] = Unit {0}
+StandInTurn locks (a ∷ rest) = ((b : Lock) → IsOne rest b → StandsBefore locks a b) × StandInTurn locks rest
+
+-- these are the locks that no lock of a list covers, each once, in the order in which they first stand among all
+pub record AreBare (c : Classed) (f : ℕ) (list locks bare : List Lock) : Type 0 where
+  pub kept : (a : Lock) → IsOne bare a ↔ (IsOne locks a × (¬ IsUnderOne c f list a))
+  pub order : StandInTurn locks bare
+
+-- these are the free locks of a set that no lock of a list covers, in order
+pub record AreBareNeeds (c : Classed) (f : ℕ) (list : List Lock) (given : Locks) (bare : List Lock) : Type 0 where
+  pub kept : (a : Lock) → IsOne bare a ↔ ((given a × IsFree c f given a) × (¬ IsUnderOne c f list a))
+  pub order : AreInOrder bare
+
+-- the refusal is of what one of the first sections needs, or of what the list of one of the first sections reads
+abbrev pub IsBelow : ℕ → ℕ → CheckFault → Type 0
+IsBelow needs reads (Uncovered section lock) = section < needs
+IsBelow needs reads (Unguarded section lock) = section < reads
+IsBelow needs reads fault = ⊥
+
+-- these are all that lists lack of what so many sections need, and of what so many lists read
+pub record AreLacksBelow (l : Lowered) (c : Classed) (K : Family) (lists : List (List Lock)) (needs reads : ℕ) (faults : List CheckFault) : Type 0 where
+  pub exact : (f : CheckFault) → IsAmong faults f ↔ (NamesLack l c K lists f × IsBelow needs reads f)
+  pub order : AreInTurn lists faults

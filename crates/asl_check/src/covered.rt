@@ -2,7 +2,7 @@
 ghost use Rattle.std.specs.Prelude.{◌≡◌, IfOk, IfErr, length};
 ghost use Rattle.asl_backward_flow.specs.Needed.{AreParts};
 ghost use Rattle.asl_check.specs.Checked.{AreGuarded};
-ghost use Rattle.asl_check.specs.KnownLists.{AreCovered, IsUncovered, IsUnguarded};
+ghost use Rattle.asl_check.specs.KnownLists.{AreCovered, IsFirstLack, IsUncovered, IsUnguarded};
 
 use crate::bare_reads::first_bare_read;
 use crate::fault::CheckFault;
@@ -53,4 +53,23 @@ pub fn guard(
         }
     }
     Ok(())
+}
+
+/// Whether each list covers what its section needs, and over what its own expressions read. Else the first that is wrong is named.
+pub fn judge(
+    lowering: &Lowering,
+    classes: &Classes,
+    flow: &Flow,
+    lists: &[Items<Lock>],
+) -> Result<(), CheckFault>
+    requires count { length lists.now ≡ length lowering.now.sections }
+    requires parts { AreParts flow.now }
+    ensures covered { IfOk result (λ _. AreCovered lowering.now classes.now flow.now lists.now (length lowering.now.sections)) }
+    ensures guarded { IfOk result (λ _. AreGuarded lowering.now classes.now lists.now (length lowering.now.sections)) }
+    ensures first { IfErr result (IsFirstLack lowering.now classes.now flow.now lists.now) }
+{
+    match cover(lowering, classes, flow, lists) {
+        Ok(()) => guard(lowering, classes, lists),
+        Err(fault) => Err(fault),
+    }
 }

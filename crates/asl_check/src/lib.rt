@@ -1,6 +1,7 @@
 //! Whether lock lists that were made by other means are enough for a program.
 #![tactic(auto)]
 
+mod bare_locks;
 mod bare_reads;
 mod check_analysis;
 mod checked;
@@ -9,9 +10,12 @@ mod covered;
 mod covers;
 mod fault;
 mod lacking;
+mod lacks;
 pub mod laws;
 mod locks;
+mod missing_locks;
 mod spelled;
 
 pub use checked::check;
 pub use fault::CheckFault;
+pub use missing_locks::missing;

@@ -53,7 +53,7 @@ pub fn copied(lock: &Lock) -> Lock
 }
 
 /// Whether both are the same lock.
-fn are_same(lock: &Lock, other: &Lock) -> bool
+pub fn are_same(lock: &Lock, other: &Lock) -> bool
     ensures { IsTrue result ↔ (lock.now ≡ other.now) }
 {
     lock == other

@@ -10,7 +10,7 @@ use Rattle.asl_class_reasons.specs.declared.place.Place.{Place}
 use Rattle.asl_class_reasons.specs.declared.place.Place.TheVariants as place
 use Rattle.asl_class_reasons.specs.declared.place.Step.{Step}
 use Rattle.asl_class_reasons.specs.declared.search.Visit.{Visit}
-use Rattle.asl_class_reasons.specs.declared.search.Chains.{Chains}
+use Rattle.asl_class_reasons.specs.declared.search.Search.{Search}
 use Rattle.asl_class_reasons.specs.Draft.{number, Has}
 use Rattle.asl_class_reasons.specs.Chains.{AreStepsThere, seen, unseen, IsShaped, IsReached, IsSearch, IsVisited, IsStarted}
 use Rattle.asl_class_reasons.proofs.Labels.{own_number}
@@ -35,7 +35,7 @@ reads xs n x lt e = slice_get-get_or xs n x lt ∙ ap Some (sym e)
 pub entry_is : (xs : List ℕ) (n x : ℕ) → n < length xs → x ≡ get_or xs n x → x ≡ get_or xs n 0
 entry_is xs n x lt e = sym (get_or_from_slice_get xs n x 0 (reads xs n x lt e))
 
-pub entry_seen : (t : Chains) (p : Place) (n x : ℕ) → IsShaped t → Has t.members t.functions p → n ≡ number t.members p → x ≡ get_or t.at.items n x → x ≡ seen t p
+pub entry_seen : (t : Search) (p : Place) (n x : ℕ) → IsShaped t → Has t.members t.functions p → n ≡ number t.members p → x ≡ get_or t.at.items n x → x ≡ seen t p
 entry_seen t p n x h has en e =
     let low : n < length t.at.items = omega (arith, number_within t.members t.functions p has, h.size, en) in
     entry_is t.at.items n x low e ∙ ap (λ (k : ℕ). get_or t.at.items k 0) en
@@ -78,7 +78,7 @@ started_there m f n from at en e h =
     }
 
 -- a search that has come to its start alone
-pub begun_search : (steps : List Step) (t : Chains) → t.members < 2 ^ 20 → t.functions ≤ 65536 → AreStepsThere t.members t.functions steps → IsStarted t.members t.functions t.from t.at.items → t.visits.items ≡ record { place = t.from; step = 0; before = 0 } ∷ [] → IsSearch steps t
+pub begun_search : (steps : List Step) (t : Search) → t.members < 2 ^ 20 → t.functions ≤ 65536 → AreStepsThere t.members t.functions steps → IsStarted t.members t.functions t.from t.at.items → t.visits.items ≡ record { place = t.from; step = 0; before = 0 } ∷ [] → IsSearch steps t
 begun_search steps t few some there s e =
     let v : Visit = record { place = t.from; step = 0; before = 0 } in
     let one : slice_get t.visits.items 0 ≡ Some v = ap (λ (vs : List Visit). slice_get vs 0) e in
@@ -106,9 +106,9 @@ begun_search steps t few some there s e =
     }
 
 -- one visit more
-visited_same : (old new : Chains) → new.members ≡ old.members → new.functions ≡ old.functions → new.from ≡ old.from → record { members = old.members; functions = old.functions; from = old.from; visits = new.visits; at = new.at } ≡ new
+visited_same : (old new : Search) → new.members ≡ old.members → new.functions ≡ old.functions → new.from ≡ old.from → record { members = old.members; functions = old.functions; from = old.from; visits = new.visits; at = new.at } ≡ new
 visited_same old new m f p =
-    let of : ℕ → ℕ → Place → Chains = λ a b q. record { members = a; functions = b; from = q; visits = new.visits; at = new.at } in
+    let of : ℕ → ℕ → Place → Search = λ a b q. record { members = a; functions = b; from = q; visits = new.visits; at = new.at } in
     ap (λ (a : ℕ). of a old.functions old.from) (sym m) ∙ ap (λ (b : ℕ). of new.members b old.from) (sym f) ∙ ap (λ (q : Place). of new.members new.functions q) (sym p)
 
 reached_more : (steps : List Step) (vs : List Visit) (v u : Visit) → IsReached steps vs u → IsReached steps (vs ++ v ∷ []) u
@@ -120,7 +120,7 @@ reached_more steps vs v u r = record {
   leads = r.leads;
 }
 
-shaped_visited : (steps : List Step) (old new : Chains) (v : Visit) → IsShaped old → IsVisited old new v → IsReached steps old.visits.items v → Has old.members old.functions v.place → IsShaped (record { members = old.members; functions = old.functions; from = old.from; visits = new.visits; at = new.at })
+shaped_visited : (steps : List Step) (old new : Search) (v : Visit) → IsShaped old → IsVisited old new v → IsReached steps old.visits.items v → Has old.members old.functions v.place → IsShaped (record { members = old.members; functions = old.functions; from = old.from; visits = new.visits; at = new.at })
 shaped_visited steps old new v h k r has =
     let vs : List Visit = old.visits.items in
     let more : List Visit = vs ++ v ∷ [] in
@@ -172,10 +172,10 @@ shaped_visited steps old new v h k r has =
       ];
     }
 
-pub search_visited : (steps : List Step) (old new : Chains) (v : Visit) → IsSearch steps old → IsVisited old new v → IsReached steps old.visits.items v → Has old.members old.functions v.place → IsSearch steps new
+pub search_visited : (steps : List Step) (old new : Search) (v : Visit) → IsSearch steps old → IsVisited old new v → IsReached steps old.visits.items v → Has old.members old.functions v.place → IsSearch steps new
 search_visited steps old new v h k r has =
     let vs : List Visit = old.visits.items in
-    let mid : Chains = record { members = old.members; functions = old.functions; from = old.from; visits = new.visits; at = new.at } in
+    let mid : Search = record { members = old.members; functions = old.functions; from = old.from; visits = new.visits; at = new.at } in
     let all : (u : Visit) → IsReached steps (vs ++ v ∷ []) u → IsReached steps new.visits.items u = λ u x. subst (λ (xs : List Visit). IsReached steps xs u) (sym k.visits) x in
     let done : IsSearch steps mid = record {
       shaped = shaped_visited steps old new v h.shaped k r has;
@@ -185,7 +185,7 @@ search_visited steps old new v h k r has =
         | inr is ↦ reached_more steps vs v u (subst (λ (x : Visit). IsReached steps vs x) (sym is.1) r)
       ]);
     } in
-    subst (λ (t : Chains). IsSearch steps t) (visited_same old new k.members k.functions k.from) done
+    subst (λ (t : Search). IsSearch steps t) (visited_same old new k.members k.functions k.from) done
 
 -- fewer places are left then
 unseen_more : (n : ℕ) → unseen (n + 1) ≡ 0
@@ -193,7 +193,7 @@ unseen_more n =
     let is : n + 1 ≡ suc n = omega arith in
     ap unseen is
 
-pub fewer_left : (old new : Chains) (v : Visit) → IsShaped old → IsVisited old new v → Has old.members old.functions v.place → seen old v.place ≡ 0 → sum_by unseen new.at.items < sum_by unseen old.at.items
+pub fewer_left : (old new : Search) (v : Visit) → IsShaped old → IsVisited old new v → Has old.members old.functions v.place → seen old v.place ≡ 0 → sum_by unseen new.at.items < sum_by unseen old.at.items
 fewer_left old new v h k has left =
     let n0 : ℕ = number old.members v.place in
     let x : ℕ = length old.visits.items + 1 in
@@ -205,7 +205,7 @@ fewer_left old new v h k has left =
     omega arith
 
 -- the place at which a step begins has a visit: so its other place is reached, either way
-pub found_at : (t : Chains) (p : Place) (at : ℕ) → IsShaped t → Has t.members t.functions p → 0 < at → at ≡ seen t p → (u : Visit) × (slice_get t.visits.items (at - 1) ≡ Some u) × (u.place ≡ p)
+pub found_at : (t : Search) (p : Place) (at : ℕ) → IsShaped t → Has t.members t.functions p → 0 < at → at ≡ seen t p → (u : Visit) × (slice_get t.visits.items (at - 1) ≡ Some u) × (u.place ≡ p)
 found_at t p at h has some e =
     let n : ℕ = number t.members p in
     let low : n < length t.at.items = omega (arith, number_within t.members t.functions p has, h.size) in
@@ -214,12 +214,12 @@ found_at t p at h has some e =
     let f = h.found n (at - 1) there in
     (f.visit, f.there, own_number t.members t.functions f.visit.place p f.has has f.numbered)
 
-pub reached_forth : (steps : List Step) (t : Chains) (s : Step) (index at : ℕ) → IsSearch steps t → slice_get steps index ≡ Some s → 0 < at → at ≡ seen t s.from → IsReached steps t.visits.items (record { place = s.into; step = index; before = at - 1 })
+pub reached_forth : (steps : List Step) (t : Search) (s : Step) (index at : ℕ) → IsSearch steps t → slice_get steps index ≡ Some s → 0 < at → at ≡ seen t s.from → IsReached steps t.visits.items (record { place = s.into; step = index; before = at - 1 })
 reached_forth steps t s index at h e some is =
     let f = found_at t s.from at h.shaped (h.steps_there index s e).0 some is in
     record { before = f.0; step = s; there = f.1; stands = e; leads = inl (sym f.2, refl) }
 
-pub reached_back : (steps : List Step) (t : Chains) (s : Step) (index at : ℕ) → IsSearch steps t → slice_get steps index ≡ Some s → 0 < at → at ≡ seen t s.into → IsReached steps t.visits.items (record { place = s.from; step = index; before = at - 1 })
+pub reached_back : (steps : List Step) (t : Search) (s : Step) (index at : ℕ) → IsSearch steps t → slice_get steps index ≡ Some s → 0 < at → at ≡ seen t s.into → IsReached steps t.visits.items (record { place = s.from; step = index; before = at - 1 })
 reached_back steps t s index at h e some is =
     let f = found_at t s.into at h.shaped (h.steps_there index s e).1 some is in
     record { before = f.0; step = s; there = f.1; stands = e; leads = inr (sym f.2, refl) }

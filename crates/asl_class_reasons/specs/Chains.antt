@@ -4,7 +4,7 @@ use Rattle.std.specs.Prelude.{◌≡◌, ◌<◌, ◌≤◌, ◌+◌, ◌*◌, �
 use Rattle.asl_class_reasons.specs.declared.place.Place.{Place}
 use Rattle.asl_class_reasons.specs.declared.place.Step.{Step}
 use Rattle.asl_class_reasons.specs.declared.search.Visit.{Visit}
-use Rattle.asl_class_reasons.specs.declared.search.Chains.{Chains}
+use Rattle.asl_class_reasons.specs.declared.search.Search.{Search}
 use Rattle.asl_class_reasons.specs.Reasons.{Leads}
 use Rattle.asl_class_reasons.specs.Draft.{number, Has}
 
@@ -14,7 +14,7 @@ AreStepsThere members functions steps =
     (n : ℕ) (s : Step) → slice_get steps n ≡ Some s → Has members functions s.from × Has members functions s.into
 
 -- one more than the number of the visit of a place, or 0
-abbrev pub seen : Chains → Place → ℕ
+abbrev pub seen : Search → Place → ℕ
 seen t p = slice_index t.at.items (number t.members p)
 
 -- 1 for a place that was not visited
@@ -23,14 +23,14 @@ unseen zero = 1
 unseen (suc n) = 0
 
 -- the place of a number has a visit of this number
-pub record IsFound (t : Chains) (n k : ℕ) : Type 0 where
+pub record IsFound (t : Search) (n k : ℕ) : Type 0 where
   pub visit : Visit
   pub there : slice_get t.visits.items k ≡ Some visit
   pub numbered : number t.members visit.place ≡ n
   pub has : Has t.members t.functions visit.place
 
 -- each place has an entry of its own, visits go back to the first, and entries are numbers of visits
-pub record IsShaped (t : Chains) : Type 0 where
+pub record IsShaped (t : Search) : Type 0 where
   pub members : t.members < 2 ^ 20
   pub functions : t.functions ≤ 65536
   pub size : length t.at.items ≡ t.members + t.members + t.functions * 256
@@ -49,26 +49,26 @@ pub record IsReached (steps : List Step) (visits : List Visit) (v : Visit) : Typ
   pub leads : Leads step before.place v.place
 
 -- a search by these steps: all visits but the first are by them
-pub record IsSearch (steps : List Step) (t : Chains) : Type 0 where
+pub record IsSearch (steps : List Step) (t : Search) : Type 0 where
   pub shaped : IsShaped t
   pub steps_there : AreStepsThere t.members t.functions steps
   pub reached : (n : ℕ) (v : Visit) → slice_get t.visits.items (suc n) ≡ Some v → IsReached steps t.visits.items v
 
 -- both places of the step were visited, or none
-abbrev pub IsEven : Chains → Step → Type 0
+abbrev pub IsEven : Search → Step → Type 0
 IsEven t s = (seen t s.from ≡ 0 → seen t s.into ≡ 0) × (seen t s.into ≡ 0 → seen t s.from ≡ 0)
 
 -- so it is of each step of the list
-pub record IsClosed (steps : List Step) (t : Chains) : Type 0 where
+pub record IsClosed (steps : List Step) (t : Search) : Type 0 where
   pub each : (n : ℕ) (s : Step) → slice_get steps n ≡ Some s → IsEven t s
 
 -- all chains from one place by these steps: a search that found nothing more
-pub record AreChains (steps : List Step) (t : Chains) : Type 0 where
+pub record AreChains (steps : List Step) (t : Search) : Type 0 where
   pub search : IsSearch steps t
   pub closed : IsClosed steps t
 
 -- one visit more
-pub record IsVisited (old new : Chains) (v : Visit) : Type 0 where
+pub record IsVisited (old new : Search) (v : Visit) : Type 0 where
   pub members : new.members ≡ old.members
   pub functions : new.functions ≡ old.functions
   pub from : new.from ≡ old.from

@@ -10,11 +10,29 @@ ghost use Rattle.asl_class_reasons.specs.Reasons.{IsChain, Joined};
 use crate::draft::{Draft, number};
 use crate::place::{Link, Place, Step};
 use crate::reasons::Reasons;
-use crate::search::{Chains, is_there};
+use crate::search::{Search, is_there};
 use crate::step_ends::StepEnds;
 use std::alloc::{AllocError, Global};
+use std::marker::Model;
 
-/// A search from a place by steps of a draft, all or the first of them.
+/// All chains from one place, as a search found them.
+#[derive(Drop)]
+pub struct Chains {
+    search: Search,
+}
+
+impl Model for Chains {
+    ghost use Rattle.asl_class_reasons.specs.declared.search.Search.{Search as SearchValue};
+    ghost use Rattle.asl_class_reasons.specs.Chains.{IsShaped};
+
+    ghost Value = { SearchValue };
+
+    ghost view = { λ c. c.search };
+
+    ghost invariant = { λ c. IsShaped c.search };
+}
+
+/// All chains from a place by steps of a draft, all or the first of them.
 fn search(
     alloc: Global,
     draft: &Draft,
@@ -27,13 +45,13 @@ fn search(
     ensures chains { IfOk result (AreChains steps.now) }
     ensures from { IfOk result (λ t. t.from ≡ from) }
 {
-    let mut chains = Chains::begun(alloc, draft, from)?;
-    chains.spread(steps, ends)?;
-    chains.complete(steps)?;
-    Ok(chains)
+    let mut search = Search::begun(alloc, draft, from)?;
+    search.spread(steps, ends)?;
+    search.complete(steps)?;
+    Ok(Chains { search })
 }
 
-impl Chains {
+impl Search {
     /// The number of the visit of a place, if the search has come to it.
     fn visit_of(&self, place: Place) -> Option<usize>
         requires { IsShaped self.now }
@@ -68,7 +86,7 @@ impl Chains {
     }
 
     /// A shortest chain from the start of the search to a place; none where no chain leads there.
-    pub fn chain_to(&self, alloc: Global, into: Place) -> Result<Option<Vec<Link>>, AllocError>
+    fn chain_to(&self, alloc: Global, into: Place) -> Result<Option<Vec<Link>>, AllocError>
         requires { IsShaped self.now }
         ensures some { (steps : List StepValue) → AreChains steps self.now → IfOk result (λ o. IfSome o (λ ks. IsChain steps self.now.from ks.items into)) }
         ensures none { (steps : List StepValue) → AreChains steps self.now → IfOk result (λ o. o ≡ None → ¬ Joined steps self.now.from into) }
@@ -83,13 +101,22 @@ impl Chains {
     }
 }
 
+impl Chains {
+    /// A shortest chain from the place at which all of them begin to another; none where no chain leads there.
+    pub fn chain_to(&self, alloc: Global, into: Place) -> Result<Option<Vec<Link>>, AllocError>
+        ensures some { (steps : List StepValue) → AreChains steps self.now → IfOk result (λ o. IfSome o (λ ks. IsChain steps self.now.from ks.items into)) }
+        ensures none { (steps : List StepValue) → AreChains steps self.now → IfOk result (λ o. o ≡ None → ¬ Joined steps self.now.from into) }
+    {
+        self.search.chain_to(alloc, into)
+    }
+}
+
 impl Reasons {
     ghost use Rattle.asl_class_reasons.specs.declared.place.Place.TheVariants.{Member};
 
     /// All chains from one place: a search, for which each step is looked at three times at most, and which serves all places.
     pub fn chains_from(&self, alloc: Global, from: Place) -> Result<Chains, AllocError>
         ensures chains { IfOk result (AreChains self.now.steps) }
-        ensures shaped { IfOk result IsShaped }
         ensures from { IfOk result (λ t. t.from ≡ from) }
     {
         search(

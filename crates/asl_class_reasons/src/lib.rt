@@ -13,8 +13,8 @@ mod search;
 mod settle;
 mod step_ends;
 
+pub use chains::Chains;
 pub use laws::chains_put_together;
 pub use parting::parts;
 pub use place::{Cause, Link, Place, Step};
 pub use reasons::{Reasons, reasons_of};
-pub use search::Chains;

@@ -18,9 +18,9 @@ pub(crate) struct Visit {
     pub(crate) before: usize,
 }
 
-/// All chains from one place, as a search found them.
+/// A search from one place: the places that it has come to.
 #[derive(Drop)]
-pub struct Chains {
+pub(crate) struct Search {
     pub(crate) members: u32,
     pub(crate) functions: u32,
     pub(crate) from: Place,
@@ -60,9 +60,9 @@ fn started(
     Ok(at)
 }
 
-impl Chains {
+impl Search {
     /// A search that has come to its start alone.
-    pub(crate) fn begun(alloc: Global, draft: &Draft, from: Place) -> Result<Chains, AllocError>
+    pub(crate) fn begun(alloc: Global, draft: &Draft, from: Place) -> Result<Search, AllocError>
         requires { IsSized draft.now }
         ensures search { (steps : List StepValue) → AreStepsThere draft.now.members draft.now.functions steps → IfOk result (IsSearch steps) }
         ensures from { IfOk result (λ t. t.from ≡ from) }
@@ -74,7 +74,7 @@ impl Chains {
             step: 0,
             before: 0,
         })?;
-        Ok(Chains {
+        Ok(Search {
             members: draft.members,
             functions: draft.functions,
             from,

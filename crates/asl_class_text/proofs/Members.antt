@@ -6,7 +6,8 @@ use Rattle.asl_points_to.specs.Classes.{Classed, AreClasses, members}
 use Rattle.asl_class_reasons.specs.declared.place.Step.{Step}
 use Rattle.asl_class_reasons.specs.Reasons.{AreAllReasons}
 use Rattle.asl_class_text.specs.Numbered.{numbered}
-use Rattle.asl_class_text.specs.Classes.{one_of, members_of}
+use Rattle.asl_class_text.specs.declared.facts.Known.{Known}
+use Rattle.asl_class_text.specs.Classes.{one_of, members_of, IsKnown}
 use Rattle.asl_class_text.proofs.Paired.{none_there, same_Some}
 use Rattle.asl_class_text.specs.Made.{AreAllJoined, AreClassesJoined}
 
@@ -54,3 +55,7 @@ told_joined steps classes class a joined = record { each = λ first others is n 
 pub classes_joined : (l : Lowered) (c : Classed) (steps : List Step) (classes : List ℕ) → AreAllReasons l steps → AreClasses l c → classes ≡ members c → AreClassesJoined steps classes
 classes_joined l c steps classes reasons are is m n x hm hn =
     reasons.all c are m n (x, subst (λ (xs : List ℕ). slice_get xs m ≡ Some x) is hm, subst (λ (xs : List ℕ). slice_get xs n ≡ Some x) is hn)
+
+-- so of what is known of a source
+pub known_joined : (source : List ℕ) (k : Known) (steps : List Step) → IsKnown source k → AreAllReasons k.facts.lowering steps → AreClassesJoined steps k.facts.classes.items
+known_joined source k steps is reasons = classes_joined k.facts.lowering is.facts.classed steps k.facts.classes.items reasons is.facts.classes is.facts.facts.classes

@@ -11,6 +11,7 @@ use Rattle.asl_class_reasons.specs.declared.place.Step.{Step}
 use Rattle.asl_class_reasons.specs.Reasons.{AreAllReasons}
 use Rattle.asl_class_reasons.specs.Without.{without}
 use Rattle.asl_class_text.specs.declared.facts.Facts.{Facts}
+use Rattle.asl_class_text.specs.declared.facts.Known.{Known}
 use Rattle.asl_class_text.specs.declared.told.ToldPair.{ToldPair}
 use Rattle.asl_class_text.specs.declared.told.ToldClass.{ToldClass}
 use Rattle.asl_class_text.specs.Numbered.{numbered}
@@ -86,6 +87,11 @@ pub record AreFacts (source : List ℕ) (f : Facts) : Type 0 where
   pub classed : Classed
   pub classes : AreClasses f.lowering classed
   pub facts : AreFactsOf source f.map f.lowering classed f
+
+-- so, with its classes
+pub record IsKnown (source : List ℕ) (k : Known) : Type 0 where
+  pub facts : AreFacts source k.facts
+  pub classes : facts.classed ≡ k.classes
 
 -- the text tells the classes of the source
 pub record IsClassText (source : List ℕ) (all : Bool) (text : List ℕ) : Type 0 where

@@ -4,5 +4,6 @@ pub mod Kinds
 pub mod Texts
 pub mod Chains
 pub mod Classes
+pub mod Reasoned
 -- Machinery of the proofs, not of the promise:
 pub mod Made

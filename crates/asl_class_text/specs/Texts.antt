@@ -177,6 +177,22 @@ without_line f (Some pc) = codes "    without line " ++ (decimal (line_at f pc) 
 abbrev pub pair_lines : Facts → ToldPair → List ℕ
 pair_lines f p = head_line f p ++ (flat_map (step_line f) p.chain.items ++ (parameters_line f p.chain.items ++ without_line f p.without))
 
+-- how many of so many members are told
+abbrev pub shown : Bool → ℕ → ℕ
+shown true count = count
+shown false count = if nat_lt 8 count then 7 else count
+
+-- why the members of a class share it, where more is told of the lists: two blanks further on, and how many members are left
+abbrev pub pair_block : Facts → ToldPair → List ℕ
+pair_block f p = codes "  " ++ pair_lines f p
+
+abbrev pub more_line : ℕ → List ℕ
+more_line left = if nat_lt 0 left then codes "    and " ++ (decimal left ++ codes " more (--all tells why)\n") else []
+
+abbrev pub reasons_block : Facts → Bool → ToldClass → List ℕ
+reasons_block f all t =
+    flat_map (pair_block f) t.pairs.items ++ more_line (length t.members.items - shown all (length t.members.items))
+
 -- ---- classes
 
 -- the member with a number in a list
@@ -186,11 +202,6 @@ listed_words f number member = (if nat_lt 0 number then codes ", " else []) ++ m
 -- how many members are left, if some are
 abbrev pub left_words : ℕ → List ℕ
 left_words left = if nat_lt 0 left then codes ", and " ++ (decimal left ++ codes " more (--all tells them)") else []
-
--- how many of so many members are told
-abbrev pub shown : Bool → ℕ → ℕ
-shown true count = count
-shown false count = if nat_lt 8 count then 7 else count
 
 -- the number of a class and its members
 abbrev pub members_line : Facts → Bool → ToldClass → List ℕ

@@ -5,16 +5,13 @@ ghost use Rattle.asl_class_text.specs.Numbered.{numbered};
 ghost use Rattle.asl_class_text.specs.Texts.{listed_words, left_words, members_line, class_lines, classes_text};
 ghost use Rattle.asl_class_text.specs.Classes.{IsClassText};
 
-use crate::facts::{Facts, facts_of};
+use crate::facts::Facts;
 use crate::lines::push_pairs;
 use crate::making::{shown, told_classes};
+use crate::reasoned::reasoned_with;
 use crate::told::ToldClass;
 use crate::words::member_words;
-use asl_class_reasons::reasons_of;
-use asl_lower::lower;
 use asl_map::{Map, MapFault, map_of};
-use asl_points_to::classes;
-use asl_syntax::parse;
 use std::alloc::{AllocError, Global};
 use std::fmt::Write;
 
@@ -115,19 +112,10 @@ fn told(alloc: Global, source: &[u8], map: Map, all: bool) -> Result<String, All
     requires { IsMapped source.now map }
     ensures { IfOk result (λ text. IsClassText source.now all (string_bytes text)) }
 {
-    let Ok(ast) = parse(alloc, source) else {
-        return Err(AllocError);
-    };
-    let Ok(lowering) = lower(alloc, &ast) else {
-        return Err(AllocError);
-    };
-    let Ok(classes) = classes(alloc, &lowering) else {
-        return Err(AllocError);
-    };
-    let reasons = reasons_of(alloc, &lowering)?;
-    let facts = facts_of(alloc, source, map, lowering, &classes)?;
-    let told = told_classes(alloc, &facts, &reasons, all)?;
-    text_of(alloc, &facts, all, &told)
+    let reasoned = reasoned_with(alloc, source, map)?;
+    let facts = &reasoned.known.facts;
+    let told = told_classes(alloc, facts, &reasoned.reasons, all)?;
+    text_of(alloc, facts, all, &told)
 }
 
 /// The classes of a source, and why their members share them; with `all` all members are told.

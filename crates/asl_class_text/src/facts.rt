@@ -1,11 +1,13 @@
 //! What the text of classes is read from.
-ghost use Rattle.std.specs.Prelude.{◌≡◌, ◌<◌, ◌^◌, length, IfOk};
+ghost use Rattle.std.specs.Prelude.{◌≡◌, ◌<◌, ◌^◌, length, IfOk, IfErr};
 ghost use Rattle.asl_points_to.specs.Classes.{members, AreClasses};
-ghost use Rattle.asl_class_text.specs.Classes.{AreFactsOf};
+ghost use Rattle.asl_map.specs.Mapped.{IsMapped, IsRefusedMapping};
+ghost use Rattle.asl_class_text.specs.Classes.{AreFactsOf, IsKnown};
 
-use asl_lower::Lowering;
-use asl_map::{Map, line_table};
-use asl_points_to::Classes;
+use asl_lower::{Lowering, lower};
+use asl_map::{Map, MapFault, line_table, map_of};
+use asl_points_to::{Classes, classes};
+use asl_syntax::parse;
 use std::alloc::{AllocError, Global};
 
 /// What is known of a source.
@@ -23,6 +25,15 @@ pub struct Facts<'s> {
     pub count: u16,
     /// The class of each member: of the globals, and then of the sites.
     pub classes: Vec<u16>,
+}
+
+/// What is known of a source, and its classes.
+#[derive(Drop)]
+pub struct Known<'s> {
+    /// The text with its map, its code and the class of each member.
+    pub facts: Facts<'s>,
+    /// The classes.
+    pub classes: Classes,
 }
 
 /// The class of each member: of the globals, and then of the sites.
@@ -45,7 +56,7 @@ fn member_classes(
 }
 
 /// What is known of a source with this map, this lowering and these classes.
-pub(crate) fn facts_of<'s>(
+fn facts_of<'s>(
     alloc: Global,
     source: &'s [u8],
     map: Map,
@@ -66,4 +77,43 @@ pub(crate) fn facts_of<'s>(
         count: classes.count(),
         classes: of,
     })
+}
+
+/// What is known of a source with this map, and its classes.
+pub(crate) fn known_with<'s>(
+    alloc: Global,
+    source: &'s [u8],
+    map: Map,
+) -> Result<Known<'s>, AllocError>
+    requires { IsMapped source.now map }
+    ensures known { IfOk result (IsKnown source.entry.now) }
+    ensures few { IfOk result (λ k. length k.facts.classes.items < 2 ^ 20) }
+{
+    let Ok(ast) = parse(alloc, source) else {
+        return Err(AllocError);
+    };
+    let Ok(lowering) = lower(alloc, &ast) else {
+        return Err(AllocError);
+    };
+    let Ok(classes) = classes(alloc, &lowering) else {
+        return Err(AllocError);
+    };
+    let facts = facts_of(alloc, source, map, lowering, &classes)?;
+    Ok(Known { facts, classes })
+}
+
+/// What is known of a source, and its classes.
+///
+/// # Errors
+///
+/// The first fault of the text, of its lowering and of its classes, in this order; `OutOfMemory` where an allocation failed.
+pub fn known_source<'s>(alloc: Global, source: &'s [u8]) -> Result<Known<'s>, MapFault>
+    ensures known { IfOk result (IsKnown source.entry.now) }
+    ensures refused { IfErr result (IsRefusedMapping source.entry.now) }
+{
+    let map = map_of(alloc, source)?;
+    match known_with(alloc, source, map) {
+        Ok(known) => Ok(known),
+        Err(_) => Err(MapFault::OutOfMemory),
+    }
 }

@@ -9,9 +9,15 @@ mod lines;
 mod making;
 mod parting;
 mod phrases;
+mod reasoned;
 mod statements;
 mod told;
 mod words;
 
 pub use class_text::classes_told;
+pub use facts::{Facts, Known, known_source};
+pub use lines::{push_padded, push_place};
+pub use reasoned::{Reasoned, reasoned_source};
+pub use statements::line_of;
 pub use told::{ToldClass, ToldPair, ToldStep};
+pub use words::register_words;

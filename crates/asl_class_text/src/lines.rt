@@ -2,13 +2,14 @@
 ghost use Rattle.std.specs.Prelude.{◌≡◌, ◌++◌, OnOk, string_bytes, replicate};
 ghost use Rattle.std.specs.List.{flat_map};
 ghost use Rattle.asl_class_text.specs.Kinds.{is_passed, goes_through_parameters};
-ghost use Rattle.asl_class_text.specs.Texts.{padded, place_columns, way_line, merge_line, step_line, head_line, parameters_line, without_line, pair_lines};
+ghost use Rattle.asl_class_text.specs.Texts.{padded, place_columns, way_line, merge_line, step_line, head_line, parameters_line, without_line, pair_lines, pair_block, more_line, reasons_block};
 
 use crate::facts::Facts;
 use crate::kinds::{Kind, kind_of};
+use crate::making::shown;
 use crate::phrases::{merge_words, way_words};
 use crate::statements::{line_at, statement_at};
-use crate::told::{ToldPair, ToldStep};
+use crate::told::{ToldClass, ToldPair, ToldStep};
 use crate::words::member_words;
 use asl_class_reasons::Cause;
 use std::alloc::{AllocError, Global};
@@ -27,7 +28,7 @@ fn push_blanks(text: &mut String, count: usize) -> Result<(), AllocError>
 
 /// Adds words, with as many blanks as make both so wide, and one more.
 #[tactic(auto, unfolding(crate::specs::Texts::padded))]
-fn push_padded(text: &mut String, words: &str, width: usize) -> Result<(), AllocError>
+pub fn push_padded(text: &mut String, words: &str, width: usize) -> Result<(), AllocError>
     ensures { OnOk result (string_bytes text.new ≡ string_bytes text.old ++ padded width words.now) }
 {
     text.push_str(words)?;
@@ -37,7 +38,7 @@ fn push_padded(text: &mut String, words: &str, width: usize) -> Result<(), Alloc
 
 /// Adds the line of the statement of an instruction, and the statement, in columns.
 #[tactic(auto, unfolding(crate::specs::Texts::place_columns))]
-fn push_place(
+pub fn push_place(
     text: &mut String,
     alloc: Global,
     facts: &Facts<'_>,
@@ -208,4 +209,57 @@ pub(crate) fn push_pairs(
         push_pair(text, alloc, facts, pair)?;
     }
     Ok(())
+}
+
+/// Adds why two members share a class, two blanks further on.
+fn push_pair_block(
+    text: &mut String,
+    alloc: Global,
+    facts: &Facts<'_>,
+    pair: &ToldPair,
+) -> Result<(), AllocError>
+    ensures { OnOk result (string_bytes text.new ≡ string_bytes text.old ++ pair_block facts.now pair.now) }
+{
+    text.push_str("  ")?;
+    push_pair(text, alloc, facts, pair)
+}
+
+/// Adds why the members of each of these pairs share a class, two blanks further on.
+fn push_pair_blocks(
+    text: &mut String,
+    alloc: Global,
+    facts: &Facts<'_>,
+    pairs: &[ToldPair],
+) -> Result<(), AllocError>
+    ensures { OnOk result (string_bytes text.new ≡ string_bytes text.old ++ flat_map (pair_block facts.now) pairs.now) }
+{
+    for pair in pairs {
+        push_pair_block(text, alloc, facts, pair)?;
+    }
+    Ok(())
+}
+
+/// Adds how many members are left, if some are.
+fn push_more(text: &mut String, left: usize) -> Result<(), AllocError>
+    ensures { OnOk result (string_bytes text.new ≡ string_bytes text.old ++ more_line left) }
+{
+    if left > 0 {
+        write!(text, "    and {left} more (--all tells why)\n")
+    } else {
+        Ok(())
+    }
+}
+
+/// Adds why the members of a class share it.
+pub(crate) fn push_reasons(
+    text: &mut String,
+    alloc: Global,
+    facts: &Facts<'_>,
+    all: bool,
+    told: &ToldClass,
+) -> Result<(), AllocError>
+    ensures { OnOk result (string_bytes text.new ≡ string_bytes text.old ++ reasons_block facts.now all told.now) }
+{
+    push_pair_blocks(text, alloc, facts, &told.pairs)?;
+    push_more(text, told.members.len() - shown(all, told.members.len()))
 }

@@ -2,7 +2,7 @@
 ghost use Rattle.std.specs.Prelude.{◌≡◌, ◌<◌, ◌≤◌, ◌^◌, ◌++◌, length, IfOk, OnOk};
 ghost use Rattle.asl_class_reasons.specs.declared.place.Place.TheVariants.{Member};
 ghost use Rattle.asl_class_reasons.specs.Reasons.{Joined};
-ghost use Rattle.asl_class_reasons.specs.Chains.{AreChains, IsShaped};
+ghost use Rattle.asl_class_reasons.specs.Chains.{AreChains};
 ghost use Rattle.asl_class_text.specs.Chains.{IsToldChain};
 ghost use Rattle.asl_class_text.specs.Texts.{shown};
 ghost use Rattle.asl_class_text.specs.Classes.{one_of, members_of, IsOther, AreOthers, ArePairs, IsToldClass, AreToldClasses};
@@ -61,7 +61,6 @@ fn chain_of(
     first: u32,
     second: u32,
 ) -> Result<Vec<ToldStep>, AllocError>
-    requires shaped { IsShaped chains.now }
     requires chains { AreChains reasons.now.steps chains.now }
     requires from { chains.now.from ≡ Member first }
     requires joined { Joined reasons.now.steps (Member first) (Member second) }
@@ -88,7 +87,6 @@ fn pair_of(
     first: u32,
     second: u32,
 ) -> Result<ToldPair, AllocError>
-    requires shaped { IsShaped chains.now }
     requires chains { AreChains reasons.now.steps chains.now }
     requires from { chains.now.from ≡ Member first }
     requires joined { Joined reasons.now.steps (Member first) (Member second) }
@@ -109,6 +107,7 @@ fn pairs_of(
     alloc: Global,
     facts: &Facts<'_>,
     reasons: &Reasons,
+    trials: &mut u32,
     first: u32,
     others: &[u32],
 ) -> Result<Vec<ToldPair>, AllocError>
@@ -116,10 +115,9 @@ fn pairs_of(
     ensures { IfOk result (λ v. AreOthers facts.now.lowering reasons.now.steps first others.now (length others.now) v.items) }
 {
     let chains = reasons.chains_from(alloc, Place::Member(first))?;
-    let mut trials = all_trials();
     let mut pairs = Vec::new(alloc);
     for second in others {
-        let pair = pair_of(alloc, facts, reasons, &chains, &mut trials, first, *second)?;
+        let pair = pair_of(alloc, facts, reasons, &chains, trials, first, *second)?;
         pairs.push(pair)?;
     }
     Ok(pairs)
@@ -130,6 +128,7 @@ fn told_pairs(
     alloc: Global,
     facts: &Facts<'_>,
     reasons: &Reasons,
+    trials: &mut u32,
     told: &[u32],
 ) -> Result<Vec<ToldPair>, AllocError>
     requires { AreAllJoined reasons.now.steps told.now }
@@ -137,7 +136,7 @@ fn told_pairs(
 {
     match told.split_first() {
         Some((first, others)) if others.len() > 0 => pairs_of(
-            alloc, facts, reasons, *first, others,
+            alloc, facts, reasons, trials, *first, others,
         ),
         _ => Ok(Vec::new(alloc)),
     }
@@ -145,10 +144,11 @@ fn told_pairs(
 
 /// What is told of a class.
 #[tactic(auto, using(crate::proofs::Members::told_joined))]
-fn told_class(
+pub(crate) fn told_class(
     alloc: Global,
     facts: &Facts<'_>,
     reasons: &Reasons,
+    trials: &mut u32,
     all: bool,
     class: u16,
 ) -> Result<ToldClass, AllocError>
@@ -158,7 +158,7 @@ fn told_class(
 {
     let members = members_of(alloc, &facts.classes, class)?;
     let told = &members[..shown(all, members.len())];
-    let pairs = told_pairs(alloc, facts, reasons, told)?;
+    let pairs = told_pairs(alloc, facts, reasons, trials, told)?;
     Ok(ToldClass {
         class,
         members,
@@ -179,7 +179,8 @@ pub(crate) fn told_classes(
 {
     let mut classes = Vec::new(alloc);
     for class in 0..facts.count {
-        classes.push(told_class(alloc, facts, reasons, all, class)?)?;
+        let mut trials = all_trials();
+        classes.push(told_class(alloc, facts, reasons, &mut trials, all, class)?)?;
     }
     Ok(classes)
 }

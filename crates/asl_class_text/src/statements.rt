@@ -53,7 +53,7 @@ pub(crate) fn stretch(source: &[u8], from: usize, to: usize) -> &[u8]
 }
 
 /// The line of a place of the text.
-pub(crate) fn line_of(facts: &Facts<'_>, place: usize) -> usize
+pub fn line_of(facts: &Facts<'_>, place: usize) -> usize
     ensures { result ≡ line_of facts.now.lines.items place }
 {
     facts.lines.get(place).copied().unwrap_or(0)

@@ -138,7 +138,7 @@ fn unnamed_words(
 }
 
 /// A register of a function.
-fn register_words(
+pub fn register_words(
     alloc: Global,
     facts: &Facts<'_>,
     function: u16,

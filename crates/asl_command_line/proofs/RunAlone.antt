@@ -24,7 +24,7 @@ no_command name rows (command.Step threads schedule record_it) e h = let n : 116
 no_command name rows command.Assemble e h = let n : 115 ≡ 117 = second name (codes "asm") e h in omega (arith, n)
 no_command name rows command.Disassemble e h = let n : 105 ≡ 117 = second name (codes "dis") e h in omega (arith, n)
 no_command name rows (command.Compile k_limit text) e h = let n : 111 ≡ 117 = second name (codes "compile") e h.0 in omega (arith, n)
-no_command name rows (command.Check k_limit) e h = let n : 104 ≡ 117 = second name (codes "check") e h.0 in omega (arith, n)
+no_command name rows (command.Check k_limit all) e h = let n : 104 ≡ 117 = second name (codes "check") e h.0 in omega (arith, n)
 no_command name rows command.Map e h = let n : 97 ≡ 117 = second name (codes "map") e h in omega (arith, n)
 no_command name rows (command.Explain k_limit all classes) e h = let n : 120 ≡ 117 = second name (codes "explain") e h.0 in omega (arith, n)
 no_command name rows (command.Lists k_limit entries) e h = let n : 105 ≡ 117 = second name (codes "lists") e h.0 in omega (arith, n)

@@ -34,9 +34,9 @@ words_rule name = record (new_rule name) {
 abbrev pub compile_app : App
 compile_app = with_rule (with_rule (new_app (codes "compile")) (value_rule (codes "k"))) (flag_rule (codes "text"))
 
--- `check [--k K]`
+-- `check [--k K] [--all]`
 abbrev pub check_app : App
-check_app = with_rule (new_app (codes "check")) (value_rule (codes "k"))
+check_app = with_rule (with_rule (new_app (codes "check")) (value_rule (codes "k"))) (flag_rule (codes "all"))
 
 -- `map`
 abbrev pub map_app : App

@@ -85,7 +85,8 @@ IsCommand name rows command.Assemble = name ≡ codes "asm"
 IsCommand name rows command.Disassemble = name ≡ codes "dis"
 IsCommand name rows (command.Compile k_limit text) =
     (name ≡ codes "compile") × IsLengthAt rows k_limit × IsFlagAt (codes "text") rows text
-IsCommand name rows (command.Check k_limit) = (name ≡ codes "check") × IsLengthAt rows k_limit
+IsCommand name rows (command.Check k_limit all) =
+    (name ≡ codes "check") × IsLengthAt rows k_limit × IsFlagAt (codes "all") rows all
 IsCommand name rows command.Map = name ≡ codes "map"
 IsCommand name rows (command.Explain k_limit all classes) =
     (name ≡ codes "explain") × IsLengthAt rows k_limit × IsFlagAt (codes "all") rows all × IsFlagAt (codes "classes") rows classes

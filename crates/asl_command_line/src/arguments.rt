@@ -56,7 +56,8 @@ fn check_command<'a>(alloc: Global) -> Result<Command<'a>, AllocError>
     ensures { IfOk result (λ command. IsBuilt command check_app) }
 {
     let command = named(alloc, "check", "asl check")?;
-    with_argument(command, value(alloc, "k", "K"))
+    let command = with_argument(command, value(alloc, "k", "K"))?;
+    with_argument(command, flag(alloc, "all"))
 }
 
 fn map_command<'a>(alloc: Global) -> Result<Command<'a>, AllocError>

@@ -38,6 +38,8 @@ pub enum Command {
     Check {
         /// How many operations a path of a needed lock has at most.
         k_limit: PathLimit,
+        /// Whether all locks that lists lack are told, and not the first alone.
+        all: bool,
     },
     /// `map`: what the numbers in the code of the input, a source, stand for, and where it comes from in the text.
     Map,

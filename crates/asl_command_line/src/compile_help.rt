@@ -47,6 +47,7 @@ pub const CHECK: &str =
         \n\
         Options:\n\
         \u{20}     --k <K>  How many operations a path of a needed lock has at most, 0 to 8; 3 where it is not given\n\
+        \u{20}     --all    Tells all locks that lists lack, a line each, and not the first alone\n\
         \u{20} -h, --help   Print help\n\
         \n\
         Input: a source (docs/SOURCE.md), one byte 0, and a program: an image where it begins with ASLM, and else assembly text\n\
@@ -56,8 +57,9 @@ pub const CHECK: &str =
         \u{20} ./asl compile --text < examples/counter.asl > counter.text\n\
         \u{20} (cat examples/counter.asl; printf '\\0'; cat counter.text) | ./asl check\n\
         \u{20} (cat examples/counter.asl; printf '\\0'; sed 's/^expr .*/root write/' counter.text) | ./asl check\n\
+        \u{20} (cat examples/counter.asl; printf '\\0'; sed '/^expr/d' counter.text) | ./asl check --all\n\
         \n\
-        Status: 0 done; 1 refused, with one line 'asl: NAME' on standard error; 2 wrong usage.\n\
+        Status: 0 done; 1 refused, with one line 'asl: NAME' on standard error, with --all one for each lock; 2 wrong usage.\n\
         \n\
         Refusals, where several apply the first of them:\n\
         \u{20} Read                      standard input failed\n\

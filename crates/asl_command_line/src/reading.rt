@@ -144,7 +144,10 @@ fn read_check(alloc: Global, values: &ArgMatches<'_>) -> Result<Invocation, Allo
     ensures { IfOk result (IsReading (codes "check") (rows_of (found_of values.now))) }
 {
     match k_limit_at(values) {
-        Ok(k_limit) => Ok(Invocation::Alone(Command::Check { k_limit })),
+        Ok(k_limit) => {
+            let all = flag_at(values, "all");
+            Ok(Invocation::Alone(Command::Check { k_limit, all }))
+        }
         Err(word) => invalid(alloc, word, "--k <K>", A_PATH_LIMIT),
     }
 }

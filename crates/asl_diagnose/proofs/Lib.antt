@@ -2,3 +2,4 @@
 pub mod Refused
 -- what is told
 pub mod Telling
+mod Ends

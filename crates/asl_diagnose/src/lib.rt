@@ -7,6 +7,7 @@ mod diagnosis;
 mod infer_hints;
 mod infer_place;
 mod infer_sentence;
+mod missing_end;
 mod most;
 mod refusal_name;
 mod refusal_text;

@@ -1,22 +1,24 @@
 //! The text of a refusal: where and what, the line, a caret, and what helps.
 
-ghost use Rattle.std.specs.Prelude.{◌≡◌, ◌≤◌, ◌++◌, ℕ, List, IfOk, OnOk, string_bytes};
+ghost use Rattle.std.specs.Prelude.{◌≡◌, ◌≤◌, ◌++◌, ℕ, List, length, IfOk, OnOk, string_bytes};
 ghost use Rattle.asl_diagnose_text.specs.Listed.{expected_text};
 ghost use Rattle.asl_diagnose.specs.Bringing.{bringers_text};
 ghost use Rattle.asl_diagnose.specs.Names.{head_text};
-ghost use Rattle.asl_diagnose.specs.RefusalText.{IsHeaded, IsAnswer, IsSpelled, IsTold};
+ghost use Rattle.asl_diagnose.specs.RefusalText.{IsHeaded, IsAnswer, byte_at, IsByteTold, IsShownPlace, IsSpelled, IsTold};
 
 use crate::assembly_refusal::diagnose_assembly;
 use crate::bringers_text::push_bringers;
 use crate::diagnosis::{Diagnosis, Refusal};
 use crate::infer_hints::push_infer_hints;
 use crate::infer_sentence::push_infer_sentence;
+use crate::missing_end::missing_end;
 use crate::refusal_name::refusal_name;
 use crate::source_refusal::diagnose_source;
 use asl_diagnose_text::{
-    ToldPlaces, push_assembly_hints, push_assembly_sentence, push_bytes, push_expected, push_line,
-    push_syntax_hints, push_syntax_sentence,
+    ToldPlaces, push_assembly_hints, push_assembly_sentence, push_bytes, push_expected,
+    push_letter, push_line, push_missing_end, push_syntax_hints, push_syntax_sentence,
 };
+use asl_syntax::SyntaxFault;
 use std::alloc::{AllocError, Global};
 
 /// What is told of a text that is refused, as text.
@@ -29,12 +31,47 @@ pub fn spell(alloc: Global, text: &[u8], told: &Diagnosis) -> Result<String, All
 {
     let mut message = String::new(alloc);
     push_head(&mut message, told)?;
+    push_byte(&mut message, text, byte_at(&told.refusal))?;
     let sentence = sentence(alloc, text, told)?;
     push_bytes(&mut message, sentence.as_str().as_bytes())?;
     message.push_str("\n")?;
-    push_line(&mut message, text, told.at.min(text.len()))?;
+    push_line(&mut message, text, shown_place(text, told))?;
     push_rest(alloc, &mut message, text, told)?;
     Ok(message)
+}
+
+/// The place that is shown: that of the refusal; of a line that does not end the place behind it.
+fn shown_place(text: &[u8], told: &Diagnosis) -> usize
+    ensures within { result ≤ length text.now }
+    ensures place { IsShownPlace text.now told.now result }
+{
+    match missing_end(text, told) {
+        Some(end) => end,
+        None => told.at.min(text.len()),
+    }
+}
+
+/// The byte that is not ASCII, if that is the refusal.
+fn byte_at(refusal: &Refusal) -> Option<usize>
+    ensures { result ≡ byte_at refusal.now }
+{
+    match refusal {
+        Refusal::Syntax(SyntaxFault::NotAscii(at)) => Some(*at),
+        _ => None,
+    }
+}
+
+/// Adds the character that begins at a byte which is not ASCII, if there is such a byte.
+fn push_byte(message: &mut String, text: &[u8], at: Option<usize>) -> Result<(), AllocError>
+    ensures { OnOk result ((letter : List ℕ) × IsByteTold text.now at letter × (string_bytes message.new ≡ string_bytes message.old ++ letter)) }
+{
+    match at {
+        Some(at) => {
+            let (_, rest) = text.split_at(text.len().min(at));
+            push_letter(message, rest)
+        }
+        None => Ok(()),
+    }
 }
 
 /// Adds with what a program continues, which statements bring most of the locks, and what else helps.
@@ -83,6 +120,9 @@ fn push_sentence(
     text: &[u8],
     told: &Diagnosis,
 ) -> Result<(), AllocError> {
+    if let Some(end) = missing_end(text, told) {
+        return push_missing_end(message, text, end, told.at);
+    }
     match &told.refusal {
         Refusal::Syntax(fault) => push_syntax_sentence(message, text, fault, told.at),
         Refusal::Infer(fault) => push_infer_sentence(alloc, message, text, *fault),

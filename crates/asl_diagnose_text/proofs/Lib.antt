@@ -1,4 +1,5 @@
 -- bytes, lines and tokens
+pub mod LineEnds
 pub mod Adding
 pub mod Rowed
 pub mod Tokens

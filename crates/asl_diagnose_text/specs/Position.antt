@@ -1,6 +1,7 @@
 -- Lines, columns and words of a text, in bytes.
-use Rattle.std.specs.Prelude.{◌≡◌, ◌≢◌, ℕ, suc, ◌+◌, ◌-◌, ◌<◌, ◌≤◌, ◌⊎◌, ◌==◌, Bool, not, List, [], ◌∷◌, length, take, drop, slice_index, count_by}
+use Rattle.std.specs.Prelude.{◌≡◌, ◌≢◌, ℕ, suc, ◌+◌, ◌-◌, ◌<◌, ◌≤◌, ◌⊎◌, ◌==◌, Bool, true, false, not, List, [], ◌∷◌, length, take, drop, min, slice_index, count_by}
 use Rattle.std.specs.List.{prefix_len}
+use Rattle.asl_grammar.specs.Lex.{is_blank}
 use Rattle.asl_assembler.specs.Words.{is_separator, words_of}
 
 -- a line feed
@@ -44,3 +45,9 @@ first_of (word ∷ words) = word
 pub record IsPosition (text : List ℕ) (at number from_one : ℕ) : Type 0 where
   pub line : number ≡ line_behind (take at text)
   pub column : IsColumn (take at text) from_one
+
+-- the bytes before a place end there with one that is no blank: only blanks stand from there to the place
+pub record IsEndBefore (text : List ℕ) (at end : ℕ) : Type 0 where
+  pub within : end ≤ min at (length text)
+  pub blanks : (i : ℕ) → end ≤ i → i < min at (length text) → is_blank (slice_index text i) ≡ true
+  pub last : (end ≡ 0) ⊎ (is_blank (slice_index text (end - 1)) ≡ false)

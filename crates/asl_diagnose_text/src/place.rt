@@ -1,7 +1,8 @@
 //! Lines and columns of a text.
 
 ghost use Rattle.std.specs.Prelude.{◌≡◌, take, min, length};
-ghost use Rattle.asl_diagnose_text.specs.Position.{IsColumn, IsLineStart, line_behind};
+ghost use Rattle.asl_grammar.specs.Lex.{is_blank};
+ghost use Rattle.asl_diagnose_text.specs.Position.{IsColumn, IsEndBefore, IsLineStart, line_behind};
 
 /// The bytes before a place.
 fn before(text: &[u8], at: usize) -> &[u8]
@@ -48,4 +49,22 @@ pub fn column(text: &[u8], at: usize) -> usize
     let bytes = before(text, at);
     let start = last_line(bytes);
     bytes.len() - start + 1
+}
+
+/// Whether a byte stands between tokens alone.
+fn is_blank(byte: u8) -> bool
+    ensures { result ≡ is_blank byte }
+{
+    byte == b' ' || byte == b'\t' || byte == b'\n' || byte == b'\r'
+}
+
+/// Where the last token before a place ends: behind the last byte before it that is no blank.
+pub fn end_before(text: &[u8], at: usize) -> usize
+    ensures { IsEndBefore text.now at result }
+{
+    let mut end = at.min(text.len());
+    while end > 0 && is_blank(text[end - 1]) {
+        end -= 1;
+    }
+    end
 }

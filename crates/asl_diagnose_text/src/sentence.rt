@@ -4,8 +4,10 @@ use crate::bytes::push_quoted;
 use crate::declared::{Declares, declares_at};
 use crate::function_head::head_of;
 use crate::kind::mark_text;
+use crate::letter::letter;
 use crate::name_role::{Role, role_at};
 use crate::passed_limit::limit_text;
+use crate::place::{column, line};
 use crate::used::function_around;
 use crate::word_place::{Word, name_from, numbered};
 use asl_grammar::lexer::{Found, Tokens};
@@ -85,13 +87,32 @@ fn push_token_sentence(message: &mut String, text: &[u8], at: usize) -> Result<(
     }
 }
 
+/// Adds the sentence of a byte that is not ASCII; before it stands the character that begins there, if that shows.
 fn push_byte_sentence(message: &mut String, text: &[u8], at: usize) -> Result<(), AllocError> {
-    match text.get(at) {
+    let rest = &text[at.min(text.len())..];
+    match rest.first() {
+        Some(_) if letter(rest).is_some() => message.push_str(" is not ASCII"),
         Some(byte) => {
             let byte = *byte;
-            write!(message, "a byte of value {byte} is not ASCII")
+            write!(message, "the byte `\\x{byte:02x}` is not ASCII")
         }
         None => Ok(()),
+    }
+}
+
+/// Adds the sentence of a line that does not end; `end` is where `;` is missing, and `at` is the place of the token after it.
+pub fn push_missing_end(
+    message: &mut String,
+    text: &[u8],
+    end: usize,
+    at: usize,
+) -> Result<(), AllocError> {
+    let line = line(text, end);
+    let column = column(text, end);
+    write!(message, "`;` is missing at {line}:{column}, before ")?;
+    match next_token(text, at) {
+        Some(spot) => push_token(message, spot.token),
+        None => message.push_str("the end"),
     }
 }
 

@@ -1,8 +1,7 @@
 //! The line of a place as it is shown with a refusal, and a caret below the place.
 
-ghost use Rattle.std.specs.Prelude.{◌≡◌, ◌≤◌, ◌++◌, ℕ, List, not, length, OnOk, string_bytes};
-ghost use Rattle.std.specs.List.{prefix_len};
-ghost use Rattle.asl_diagnose_text.specs.Shown.{AreBefore, AreLines, bytes_on, ends_line};
+ghost use Rattle.std.specs.Prelude.{◌≡◌, ◌≤◌, ◌++◌, ℕ, List, length, OnOk, string_bytes};
+ghost use Rattle.asl_diagnose_text.specs.Shown.{AreBefore, AreLines, bytes_on, ends_line, is_at_feed, line_len};
 
 use crate::bytes::{push_blanks, push_bytes};
 use crate::place::line_start;
@@ -24,18 +23,38 @@ fn shown_before(text: &[u8], at: usize) -> &[u8]
     shown
 }
 
-/// Whether the byte ends a line.
-fn ends_line(byte: u8) -> bool
-    ensures { result ≡ ends_line byte }
+/// Whether a line feed stands in front, or nothing.
+fn is_at_feed(text: &[u8]) -> bool
+    ensures { result ≡ is_at_feed text.now }
 {
-    byte == b'\n' || byte == b'\r'
+    match text {
+        [] => true,
+        [byte, ..] => *byte == b'\n',
+    }
+}
+
+/// Whether a line ends in front: with a line feed, with a carriage return right before one, or with the text.
+fn ends_line(text: &[u8]) -> bool
+    ensures { result ≡ ends_line text.now }
+{
+    match text {
+        [] => true,
+        [byte, rest @ ..] => *byte == b'\n' || *byte == b'\r' && is_at_feed(rest),
+    }
 }
 
 /// How many bytes stand before the end of the first line.
 fn rest_len(text: &[u8]) -> usize
-    ensures { result ≡ prefix_len (λ b. not (ends_line b)) text.now }
+    ensures bound { result ≤ length text.now }
+    ensures len { result ≡ line_len text.now }
 {
-    text.iter().take_while(|byte| !ends_line(**byte)).count()
+    for at in 0..text.len() {
+        let (_, rest) = text.split_at(at);
+        if ends_line(rest) {
+            return at;
+        }
+    }
+    text.len()
 }
 
 /// What is shown of the line of a place from the place on.

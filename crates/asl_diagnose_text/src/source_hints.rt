@@ -4,10 +4,12 @@ use crate::bytes::{push_bytes, push_quoted};
 use crate::expected::stop;
 use crate::function_head::head_of;
 use crate::grammar_hints::{Stop, grammar_hint};
+use crate::limit_hints::limit_hint;
+use crate::main_hints::push_main_hints;
 use crate::name_role::{Role, role_at};
 use crate::near::nearest_name;
 use crate::place::{column, line};
-use crate::sentence::{next_token, plural};
+use crate::sentence::next_token;
 use crate::used::{is_global, is_local_at};
 use crate::word_place::name_from;
 use asl_grammar::control_step::settled;
@@ -60,7 +62,8 @@ pub fn push_syntax_hints(
         }
         SyntaxFault::Arity(at) => push_head(message, text, name_from(text, *at)),
         SyntaxFault::NoMain => push_main_hints(message, text),
-        SyntaxFault::Limit(_) | SyntaxFault::OutOfMemory => Ok(()),
+        SyntaxFault::Limit(at) => push_hint(message, limit_hint(text, *at)),
+        SyntaxFault::OutOfMemory => Ok(()),
     }
 }
 
@@ -220,18 +223,4 @@ fn head_bytes(text: &[u8], at: usize) -> &[u8] {
     let rest = &text[at.min(text.len())..];
     let len = rest.iter().take_while(|byte| **byte != b')').count();
     &rest[..len.saturating_add(1).min(rest.len())]
-}
-
-/// Adds how a program begins.
-fn push_main_hints(message: &mut String, text: &[u8]) -> Result<(), AllocError> {
-    if let Some(head) = head_of(text, b"main") {
-        let parameters = head.parameters;
-        write!(message, "`main` has {parameters} ")?;
-        message.push_str(plural(parameters, "parameter", "parameters"))?;
-        message.push_str("\n")?;
-    }
-    push_hint(
-        message,
-        "each thread runs `fn main(t) { .. return t; }`, where t is the number of the thread",
-    )
 }

@@ -54,7 +54,7 @@ pub(crate) fn inner_hint(control: Control<'_>, token: Token<'_>) -> &'static str
         Control::AfterAmpersand(_) => "`&` takes a name: `&g` of a global, `&y[1]` of a cell",
         Control::AfterAddress(_, _) => "`;` ends the line",
         Control::AfterBracket(_, _) => {
-            "an index is a number that is written there: no name and no sum"
+            "an index is a number that is written there: choose by `if` among `&p[0]`, `&p[1]`.. before `atomic`, or link objects"
         }
         Control::AfterIndex(_, _, _) => "`]` follows the index",
         Control::AfterStar(_) =>

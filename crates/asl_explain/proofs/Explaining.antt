@@ -119,5 +119,15 @@ module _ (source : List ℕ) (k : ℕ) (a : ExplainAnalysis) (of : IsOfSource so
     explained = subst (λ n. IsExplained of.tree n e) of.same (made_at e made);
   }
 
-  pub made_text : (text : List ℕ) → IsTextOf a text → IsText source k text
-  made_text text t = record { explanation = t.explanation; explains = made_explained t.explanation t.made; tells = t.tells }
+  pub made_text : (all : Bool) (text : List ℕ) → IsTextOf a source all text → IsText source k all text
+  made_text all text t = record {
+    explanation = t.explanation;
+    explains = made_explained t.explanation t.made;
+    reasoned = t.reasoned;
+    reasons = t.reasons;
+    classes = t.classes;
+    are_told = t.are_told;
+    front = t.front;
+    tells = t.tells;
+    ends = t.ends;
+  }

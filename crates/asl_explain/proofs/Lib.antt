@@ -10,3 +10,5 @@ mod Walking
 mod Reasons
 mod Lengthening
 mod Short
+pub mod FirstSection
+pub mod ToldClasses

@@ -1,11 +1,11 @@
 -- Pieces in a text that grows.
-use Rattle.std.proofs.Common.{◌≡◌, ◌+◌, ◌<◌, ◌≤◌, ℕ, zero, suc, List, [], ◌∷◌, ◌++◌, length, map, take, get_or, append_assoc, refl, sym, ap, ◌∙◌, subst, arith}
+use Rattle.std.proofs.Common.{◌≡◌, ◌+◌, ◌<◌, ◌≤◌, ℕ, zero, suc, List, [], ◌∷◌, ◌++◌, length, take, get_or, append_assoc, refl, sym, ap, ◌∙◌, subst, arith}
 use Rattle.std.specs.List.{flat_map}
 use Rattle.std.proofs.lemmas.List.{take_more, take_all}
 use Rattle.asl_explain.specs.declared.explained_value.Listed.{Listed}
-use Rattle.asl_explain.specs.Told.{StandIn, section_words, count_words, lock_words, told_of, told_from}
-use Rattle.asl_explain.specs.Telling.{Tells}
-use Rattle.asl_explain.proofs.Ends.{map_more}
+use Rattle.asl_explain.specs.declared.class_reasons.ClassTeller.{ClassTeller}
+use Rattle.asl_explain.specs.Told.{StandIn, section_words, count_words}
+use Rattle.asl_explain.specs.Telling.{Tells, all_pieces, pieces_of, section_pieces}
 
 pub append_none : {X : Type 0} (xs : List X) → xs ++ [] ≡ xs
 append_none [] = refl
@@ -56,63 +56,61 @@ tells_then_any ps old now new more a is = subst (λ qs. Tells qs old new) (appen
 pub tells_whole : (ps : List (List ℕ)) (old new : List ℕ) → old ≡ [] → Tells ps old new → StandIn ps new
 tells_whole ps old new empty t = subst (StandIn ps) (sym (t.added ∙ ap (λ (l : List ℕ). l ++ t.more) empty)) t.stand
 
-flat_end : {X : Type 0} (f : X → List ℕ) (xs : List X) (x : X) → flat_map f (xs ++ x ∷ []) ≡ flat_map f xs ++ f x
+flat_end : {X Y : Type 0} (f : X → List Y) (xs : List X) (x : X) → flat_map f (xs ++ x ∷ []) ≡ flat_map f xs ++ f x
 flat_end f [] x = append_none (f x)
-flat_end f (y ∷ ys) x = ap (λ (l : List ℕ). f y ++ l) (flat_end f ys x) ∙ sym (append_assoc (f y) (flat_map f ys) (f x))
+flat_end {X} {Y} f (y ∷ ys) x = ap (λ (l : List Y). f y ++ l) (flat_end f ys x) ∙ sym (append_assoc (f y) (flat_map f ys) (f x))
 
--- the words of one item more
-pub flat_more : {X : Type 0} (f : X → List ℕ) (xs : List X) (i : ℕ) (d x : X) (old now new : List ℕ) → i < length xs → get_or xs i d ≡ x → now ≡ old ++ flat_map f (take i xs) → new ≡ now ++ f x → new ≡ old ++ flat_map f (take (i + 1) xs)
-flat_more f xs i d x old now new lt is before one =
+-- the pieces of one lock more
+pub locks_more : (made : Listed → List (List ℕ)) (xs : List Listed) (i : ℕ) (d x : Listed) (old now new : List ℕ) → i < length xs → get_or xs i d ≡ x → Tells (flat_map made (take i xs)) old now → Tells (made x) now new → Tells (flat_map made (take (i + 1) xs)) old new
+locks_more made xs i d x old now new lt is before one =
     let more : take (i + 1) xs ≡ take i xs ++ x ∷ [] = take_more xs i d lt ∙ ap (λ y. take i xs ++ y ∷ []) is in
-    one ∙ ap (λ (l : List ℕ). l ++ f x) before ∙ append_assoc old (flat_map f (take i xs)) (f x) ∙ ap (λ (l : List ℕ). old ++ l) (sym (ap (flat_map f) more ∙ flat_end f (take i xs) x))
+    subst (λ ps. Tells ps old new) (sym (ap (flat_map made) more ∙ flat_end made (take i xs) x)) (tells_then (flat_map made (take i xs)) (made x) old now new before one)
 
-pub flat_all : {X : Type 0} (f : X → List ℕ) (xs : List X) (i : ℕ) (old now : List ℕ) → length xs ≤ i → now ≡ old ++ flat_map f (take i xs) → now ≡ old ++ flat_map f xs
-flat_all f xs i old now end is = is ∙ ap (λ l. old ++ flat_map f l) (take_all i xs end)
-
--- one lock more
-pub locks_more : (xs : List Listed) (i : ℕ) (d x : Listed) (old now new : List ℕ) → i < length xs → get_or xs i d ≡ x → Tells (map lock_words (take i xs)) old now → Tells (lock_words x ∷ []) now new → Tells (map lock_words (take (i + 1) xs)) old new
-locks_more xs i d x old now new lt is before one =
-    let more : take (i + 1) xs ≡ take i xs ++ x ∷ [] = take_more xs i d lt ∙ ap (λ y. take i xs ++ y ∷ []) is in
-    subst (λ ps. Tells ps old new) (sym (ap (map lock_words) more ∙ map_more lock_words (take i xs) x)) (tells_then (map lock_words (take i xs)) (lock_words x ∷ []) old now new before one)
-
-pub locks_all : (xs : List Listed) (i : ℕ) (old now : List ℕ) → length xs ≤ i → Tells (map lock_words (take i xs)) old now → Tells (map lock_words xs) old now
-locks_all xs i old now end t = subst (λ ys. Tells (map lock_words ys) old now) (take_all i xs end) t
-
--- the words of one section more
-told_more : (n : ℕ) (ls : List (List Listed)) (l : List Listed) → told_from n (ls ++ l ∷ []) ≡ told_from n ls ++ told_of (n + length ls) l
-told_more n [] l =
-    let same : n ≡ n + 0 = omega arith in
-    append_none (told_of n l) ∙ ap (λ k. told_of k l) same
-told_more n (m ∷ ls) l =
-    let next : suc n + length ls ≡ n + suc (length ls) = omega arith in
-    ap (λ (ps : List (List ℕ)). told_of n m ++ ps) (told_more (suc n) ls l ∙ ap (λ k. told_from (suc n) ls ++ told_of k l) next)
-    ∙ sym (append_assoc (told_of n m) (told_from (suc n) ls) (told_of (n + suc (length ls)) l))
+pub locks_all : (made : Listed → List (List ℕ)) (xs : List Listed) (i : ℕ) (old now : List ℕ) → length xs ≤ i → Tells (flat_map made (take i xs)) old now → Tells (flat_map made xs) old now
+locks_all made xs i old now end t = subst (λ ys. Tells (flat_map made ys) old now) (take_all i xs end) t
 
 length_taken : {X : Type 0} (xs : List X) (i : ℕ) → i < length xs → length (take i xs) ≡ i
 length_taken [] i lt = absurd (omega (arith, lt))
 length_taken (x ∷ xs) zero lt = refl
 length_taken (x ∷ xs) (suc i) lt = ap suc (length_taken xs i (omega (arith, lt)))
 
-pub sections_more : (xs : List (List Listed)) (i : ℕ) (d x : List Listed) (old now new : List ℕ) → i < length xs → get_or xs i d ≡ x → Tells (told_from 0 (take i xs)) old now → Tells (told_of i x) now new → Tells (told_from 0 (take (i + 1) xs)) old new
-sections_more xs i d x old now new lt is before one =
-    let more : take (i + 1) xs ≡ take i xs ++ x ∷ [] = take_more xs i d lt ∙ ap (λ y. take i xs ++ y ∷ []) is in
-    let taken = length_taken xs i lt in
-    let place : 0 + length (take i xs) ≡ i = omega (arith, taken) in
-    let whole = ap (told_from 0) more ∙ told_more 0 (take i xs) x ∙ ap (λ k. told_from 0 (take i xs) ++ told_of k x) place in
-    subst (λ ps. Tells ps old new) (sym whole) (tells_then (told_from 0 (take i xs)) (told_of i x) old now new before one)
+module _ (t : ClassTeller) where
+  -- the words of one section more
+  told_more : (n : ℕ) (ls : List (List Listed)) (l : List Listed) → all_pieces t n (ls ++ l ∷ []) ≡ all_pieces t n ls ++ section_pieces t (n + length ls) l
+  told_more n [] l =
+      let same : n ≡ n + 0 = omega arith in
+      append_none (section_pieces t n l) ∙ ap (λ k. section_pieces t k l) same
+  told_more n (m ∷ ls) l =
+      let next : suc n + length ls ≡ n + suc (length ls) = omega arith in
+      ap (λ (ps : List (List ℕ)). section_pieces t n m ++ ps) (told_more (suc n) ls l ∙ ap (λ k. all_pieces t (suc n) ls ++ section_pieces t k l) next)
+      ∙ sym (append_assoc (section_pieces t n m) (all_pieces t (suc n) ls) (section_pieces t (n + suc (length ls)) l))
 
-pub sections_all : (xs : List (List Listed)) (i : ℕ) (old now : List ℕ) → length xs ≤ i → old ≡ [] → Tells (told_from 0 (take i xs)) old now → StandIn (told_from 0 xs) now
-sections_all xs i old now end empty t = subst (λ ys. StandIn (told_from 0 ys) now) (take_all i xs end) (tells_whole (told_from 0 (take i xs)) old now empty t)
+  pub sections_more : (xs : List (List Listed)) (i : ℕ) (d x : List Listed) (old now new : List ℕ) → i < length xs → get_or xs i d ≡ x → Tells (all_pieces t 0 (take i xs)) old now → Tells (section_pieces t i x) now new → Tells (all_pieces t 0 (take (i + 1) xs)) old new
+  sections_more xs i d x old now new lt is before one =
+      let more : take (i + 1) xs ≡ take i xs ++ x ∷ [] = take_more xs i d lt ∙ ap (λ y. take i xs ++ y ∷ []) is in
+      let taken = length_taken xs i lt in
+      let place : 0 + length (take i xs) ≡ i = omega (arith, taken) in
+      let whole = ap (all_pieces t 0) more ∙ told_more 0 (take i xs) x ∙ ap (λ k. all_pieces t 0 (take i xs) ++ section_pieces t k x) place in
+      subst (λ ps. Tells ps old new) (sym whole) (tells_then (all_pieces t 0 (take i xs)) (section_pieces t i x) old now new before one)
 
--- a section: what is before its number, its number, its place, how many locks it takes, the rest of the head, the locks, and the rest
-pub section_told : (n count : ℕ) (xs : List Listed) → count ≡ length xs → (t0 t1 t2 t3 t4 t5 t6 t7 : List ℕ) (between place head rest : List ℕ) → t1 ≡ t0 ++ between → t2 ≡ t1 ++ section_words n → t3 ≡ t2 ++ place → t4 ≡ t3 ++ count_words count → t5 ≡ t4 ++ head
-    → Tells (map lock_words xs) t5 t6 → t7 ≡ t6 ++ rest → Tells (told_of n xs) t0 t7
-section_told n count xs same t0 t1 t2 t3 t4 t5 t6 t7 between place head rest e1 e2 e3 e4 e5 locks e7 =
-    let number = tells_then [] (section_words n ∷ []) t0 t1 t2 (tells_any t0 t1 between e1) (tells_piece t1 t2 (section_words n) e2) in
-    let many = tells_then [] (count_words (length xs) ∷ []) t2 t3 t4 (tells_any t2 t3 place e3) (tells_piece t3 t4 (count_words (length xs)) (e4 ∙ ap (λ k. t3 ++ count_words k) same)) in
-    let first = tells_then (section_words n ∷ []) (count_words (length xs) ∷ []) t0 t2 t4 number many in
-    tells_then_any (told_of n xs) t0 t6 t7 rest (tells_then (section_words n ∷ count_words (length xs) ∷ []) (map lock_words xs) t0 t5 t6 (tells_then_any (section_words n ∷ count_words (length xs) ∷ []) t0 t4 t5 head first e5) locks) e7
+  pub sections_all : (xs : List (List Listed)) (i : ℕ) (old now : List ℕ) → length xs ≤ i → old ≡ [] → Tells (all_pieces t 0 (take i xs)) old now → StandIn (all_pieces t 0 xs) now
+  sections_all xs i old now end empty h = subst (λ ys. StandIn (all_pieces t 0 ys) now) (take_all i xs end) (tells_whole (all_pieces t 0 (take i xs)) old now empty h)
 
-pub lock_told : (x : Listed) (t0 t1 t2 t3 before behind : List ℕ) → t1 ≡ t0 ++ before → t2 ≡ t1 ++ lock_words x → t3 ≡ t2 ++ behind → Tells (lock_words x ∷ []) t0 t3
-lock_told x t0 t1 t2 t3 before behind e1 e2 e3 =
-    tells_then_any (lock_words x ∷ []) t0 t2 t3 behind (tells_then [] (lock_words x ∷ []) t0 t1 t2 (tells_any t0 t1 before e1) (tells_piece t1 t2 (lock_words x) e2)) e3
+  -- a section: what is before its number, its number, its place, how many locks it takes, the rest of the head, the locks, and the rest
+  pub section_told : (n count : ℕ) (xs : List Listed) → count ≡ length xs → (t0 t1 t2 t3 t4 t5 t6 t7 : List ℕ) (between place head rest : List ℕ) → t1 ≡ t0 ++ between → t2 ≡ t1 ++ section_words n → t3 ≡ t2 ++ place → t4 ≡ t3 ++ count_words count → t5 ≡ t4 ++ head
+      → Tells (flat_map (pieces_of t n) xs) t5 t6 → t7 ≡ t6 ++ rest → Tells (section_pieces t n xs) t0 t7
+  section_told n count xs same t0 t1 t2 t3 t4 t5 t6 t7 between place head rest e1 e2 e3 e4 e5 locks e7 =
+      let number = tells_then [] (section_words n ∷ []) t0 t1 t2 (tells_any t0 t1 between e1) (tells_piece t1 t2 (section_words n) e2) in
+      let many = tells_then [] (count_words (length xs) ∷ []) t2 t3 t4 (tells_any t2 t3 place e3) (tells_piece t3 t4 (count_words (length xs)) (e4 ∙ ap (λ k. t3 ++ count_words k) same)) in
+      let first = tells_then (section_words n ∷ []) (count_words (length xs) ∷ []) t0 t2 t4 number many in
+      tells_then_any (section_pieces t n xs) t0 t6 t7 rest (tells_then (section_words n ∷ count_words (length xs) ∷ []) (flat_map (pieces_of t n) xs) t0 t5 t6 (tells_then_any (section_words n ∷ count_words (length xs) ∷ []) t0 t4 t5 head first e5) locks) e7
+
+-- a lock: what is before its spelling, its spelling, what is behind it, and why the members of its class share it
+pub lock_told : (spelled block : List ℕ) (t0 t1 t2 t3 t4 before behind : List ℕ) → t1 ≡ t0 ++ before → t2 ≡ t1 ++ spelled → t3 ≡ t2 ++ behind → t4 ≡ t3 ++ block → Tells (spelled ∷ block ∷ []) t0 t4
+lock_told spelled block t0 t1 t2 t3 t4 before behind e1 e2 e3 e4 =
+    let first = tells_then_any (spelled ∷ []) t0 t2 t3 behind (tells_then [] (spelled ∷ []) t0 t1 t2 (tells_any t0 t1 before e1) (tells_piece t1 t2 spelled e2)) e3 in
+    tells_then (spelled ∷ []) (block ∷ []) t0 t3 t4 first (tells_piece t3 t4 block e4)
+
+-- pieces stand in a text with more behind it
+pub stand_before : (ps : List (List ℕ)) (a b : List ℕ) → StandIn ps a → StandIn ps (a ++ b)
+stand_before ps a b h = subst (λ qs. StandIn qs (a ++ b)) (append_none ps) (stand_both ps [] a b h tt)

@@ -1,5 +1,6 @@
 pub mod Chains
 pub mod Explained
+pub mod ClassReasons
 pub mod Told
 -- Machinery of the proofs, not of the promise:
 pub mod Analysed

@@ -1,11 +1,14 @@
 //! The explanation of a source.
-ghost use Rattle.std.specs.Prelude.{◌≤◌, IfOk, IfErr, string_bytes};
+ghost use Rattle.std.specs.Prelude.{◌≡◌, ◌≤◌, ◌++◌, ℕ, List, IfOk, IfErr, OnOk, string_bytes};
 ghost use Rattle.asl_emitter.specs.Sources.{IsAcceptedSource};
 ghost use Rattle.asl_explain.specs.Explained.{IsExplanation, IsRefusedExplanation};
-ghost use Rattle.asl_explain.specs.Told.{IsText};
+ghost use Rattle.asl_warnings.specs.Texts.{warnings_text};
+ghost use Rattle.asl_explain.specs.ClassReasons.{AreTold};
+ghost use Rattle.asl_explain.specs.Told.{IsText, StandIn, told_from};
 ghost use Rattle.asl_explain.specs.Analysed.{IsAnalysed, IsOfSource};
 ghost use Rattle.asl_explain.specs.Telling.{IsTextOf};
 
+use crate::class_reasons::{ClassTeller, ClassTold, told_classes};
 use crate::explain_analysis::{ExplainAnalysis, analyse};
 use crate::explained_text::text_of;
 use crate::explained_value::Explanation;
@@ -13,9 +16,10 @@ use crate::fault::ExplainFault;
 use crate::making::explanation_of;
 use crate::source_places::places_of;
 use crate::text::{Teller, most_explained};
+use asl_class_text::{Reasoned, reasoned_source};
 use asl_emitter::InferFault;
-use asl_map::map_of;
 use asl_syntax::parse;
+use asl_warnings::warnings_text;
 use std::alloc::{AllocError, Global};
 
 /// What is known of a source.
@@ -59,7 +63,7 @@ pub fn explain(alloc: Global, source: &[u8], k: u32) -> Result<Explanation, Expl
 /// As `explain`.
 pub fn explained(alloc: Global, source: &[u8], k: u32, all: bool) -> Result<String, ExplainFault>
     requires { k ≤ 8 }
-    ensures told { IfOk result (λ text. IsText source.now k (string_bytes text)) }
+    ensures told { IfOk result (λ text. IsText source.now k all (string_bytes text)) }
     ensures accepted { IfOk result (λ _. IsAcceptedSource source.now k) }
     ensures refused { IfErr result (IsRefusedExplanation source.now k) }
 {
@@ -78,19 +82,79 @@ fn told(
     all: bool,
 ) -> Result<String, AllocError>
     requires { IsAnalysed analysis.now }
-    ensures { IfOk result (λ text. IsTextOf analysis.now (string_bytes text)) }
+    ensures { IfOk result (λ text. IsTextOf analysis.now source.now all (string_bytes text)) }
 {
     let explanation = explanation_of(alloc, analysis, most_explained(all))?;
-    let Ok(map) = map_of(alloc, source) else {
+    let Ok(reasoned) = reasoned_source(alloc, source) else {
         return Err(AllocError);
     };
-    let places = places_of(alloc, source, map)?;
+    let told = told_of(alloc, &reasoned, &explanation, all)?;
+    let mut text = lists_text(alloc, source, analysis, &explanation, &reasoned, &told, all)?;
+    push_warnings(alloc, &mut text, &reasoned)?;
+    Ok(text)
+}
+
+/// What is told of the classes on which the lists of an explanation have locks.
+fn told_of(
+    alloc: Global,
+    reasoned: &Reasoned<'_>,
+    explanation: &Explanation,
+    all: bool,
+) -> Result<Vec<Option<ClassTold>>, AllocError>
+    ensures { IfOk result (λ v. AreTold reasoned.now all explanation.now.sections reasoned.now.known.facts.count v.items) }
+{
+    let sections = explanation.sections.as_slice();
+    let known = reasoned.known();
+    told_classes(alloc, reasoned, all, sections, known.facts.count)
+}
+
+/// The text of the lists of an explanation.
+fn lists_text(
+    alloc: Global,
+    source: &[u8],
+    analysis: &ExplainAnalysis,
+    explanation: &Explanation,
+    reasoned: &Reasoned<'_>,
+    told: &[Option<ClassTold>],
+    all: bool,
+) -> Result<String, AllocError>
+    ensures { IfOk result (λ text. StandIn (told_from reasoned.now.known.facts all told.now 0 explanation.now.sections) (string_bytes text)) }
+{
+    let places = places_of(alloc, source, &reasoned.known().facts.map)?;
     let teller = Teller {
         alloc,
         analysis,
         places: &places,
         all,
     };
-    let text = text_of(&teller, &explanation)?;
-    Ok(text)
+    let classes = ClassTeller {
+        reasoned,
+        told,
+        all,
+    };
+    text_of(&teller, &classes, explanation)
+}
+
+/// Adds what the source may lack, behind an empty line where something stands before it.
+fn push_warnings(
+    alloc: Global,
+    text: &mut String,
+    reasoned: &Reasoned<'_>,
+) -> Result<(), AllocError>
+    ensures { OnOk result ((between : List ℕ) × (string_bytes text.new ≡ string_bytes text.old ++ (between ++ warnings_text reasoned.now.known))) }
+{
+    let warnings = warnings_text(alloc, reasoned.known())?;
+    let between = parting(text.as_str(), warnings.as_str());
+    text.push_str(between)?;
+    text.push_str(warnings.as_str())?;
+    Ok(())
+}
+
+/// An empty line between two parts; nothing where there is only one.
+fn parting(first: &str, second: &str) -> &'static str {
+    if first.is_empty() || second.is_empty() {
+        ""
+    } else {
+        "\n"
+    }
 }

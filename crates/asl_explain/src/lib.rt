@@ -1,6 +1,7 @@
 //! Why the lists of a program are as they are: each lock with the statements that need it, and how it came to the section's start.
 #![tactic(auto)]
 
+mod class_reasons;
 mod confirm;
 mod confirm_step;
 mod ended;
@@ -13,7 +14,6 @@ mod fault;
 mod laws;
 mod links;
 mod lists_by_length;
-mod lock_words;
 mod making;
 mod notes;
 mod region_table;
@@ -24,6 +24,7 @@ mod stretch;
 mod text;
 mod walk;
 
+pub use class_reasons::ClassTold;
 pub use explained_source::{explain, explained};
 pub use explained_value::{Chain, Ended, Ending, Explanation, Listed, Lists, Need, Step, Why};
 pub use fault::ExplainFault;

@@ -2,11 +2,11 @@
 
 use crate::explained_value::{Step, Why};
 use crate::links::front_of;
-use crate::lock_words::cell;
 use crate::text::Teller;
 use asl_backward_flow::Region;
 use asl_code::{Base, Expr, Instr, Lock, Op};
 use asl_lock_expr::class_of;
+use asl_lock_words::cell_words;
 use std::alloc::AllocError;
 use std::fmt::Write;
 
@@ -32,7 +32,13 @@ pub fn note_of(teller: &Teller<'_>, earlier: &Step, step: &Step) -> Result<Strin
 
 impl Teller<'_> {
     fn name_of(&self, region: Region, base: Base, ops: &[Op]) -> Result<String, AllocError> {
-        cell(self.alloc, self.places, self.function_of(region), base, ops)
+        cell_words(
+            self.alloc,
+            self.places.map,
+            self.function_of(region),
+            base,
+            ops,
+        )
     }
 
     /// On the way to which cell another is read.

@@ -9,13 +9,17 @@ use std::alloc::{AllocError, Global};
 pub struct Places<'a> {
     alloc: Global,
     source: &'a [u8],
-    map: Map,
+    pub map: &'a Map,
     /// Where each line begins, but for the first.
     lines: Vec<usize>,
 }
 
 /// The names and places of a source with this map.
-pub fn places_of(alloc: Global, source: &[u8], map: Map) -> Result<Places<'_>, AllocError> {
+pub fn places_of<'a>(
+    alloc: Global,
+    source: &'a [u8],
+    map: &'a Map,
+) -> Result<Places<'a>, AllocError> {
     let mut lines = Vec::new(alloc);
     for (place, byte) in source.iter().enumerate() {
         if *byte == b'\n' {

@@ -6,10 +6,10 @@ mod lists;
 
 use crate::explain_analysis::ExplainAnalysis;
 use crate::explained_value::{Ended, Ending, Explanation, Listed};
-use crate::lock_words::lock_words;
 use crate::source_places::Places;
 use asl_backward_flow::Region;
 use asl_code::{Base, Lock};
+use asl_lock_words::lock_words;
 use asl_lower::Section;
 use std::alloc::{AllocError, Global};
 use std::fmt::Write;
@@ -64,7 +64,7 @@ fn pad_behind(text: &mut String, len: usize, width: usize) -> Result<(), AllocEr
 
 impl Teller<'_> {
     fn words(&self, function: u16, lock: &Lock) -> Result<String, AllocError> {
-        lock_words(self.alloc, self.places, function, lock)
+        lock_words(self.alloc, self.places.map, function, lock)
     }
 
     /// The function of a region.

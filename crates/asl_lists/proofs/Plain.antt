@@ -17,9 +17,10 @@ use Rattle.asl_explain.specs.declared.explained_value.Step.{Step}
 use Rattle.asl_explain.specs.declared.explained_value.Need.{Need}
 use Rattle.asl_explain.specs.declared.explained_value.Listed.{Listed}
 use Rattle.asl_lock_expr.specs.ClassOf.{class_of}
+use Rattle.asl_warnings.specs.Lacking.{has_no_class, is_reached}
 use Rattle.asl_lists.specs.declared.facts.Facts.{Facts}
 use Rattle.asl_lists.specs.Numbered.{numbered}
-use Rattle.asl_lists.specs.Document.{base_data, lock_base, class_or_null, lock_class, op_data, lock_path, first_data, statement_data, need_data, lock_data, global_data, area_list, site_data, class_data, classes_from, function_data, section_area, section_data, unreached_data, has_no_class, is_reached, classless_data, warnings_data, document_data}
+use Rattle.asl_lists.specs.Document.{base_data, lock_base, class_or_null, lock_class, op_data, lock_path, first_data, statement_data, need_data, lock_data, global_data, area_list, site_data, class_data, classes_from, function_data, section_area, section_data, unreached_data, classless_data, warnings_data, document_data}
 
 -- none of these has one
 abbrev pub ArePlain : List Data → Type 0
@@ -115,10 +116,10 @@ section_plain : (f : Facts) (n : ℕ) (list : List Listed) → ArePlain (section
 section_plain f n list = rw (map_plain (lock_data f (section_area f n).function) (lock_plain f (section_area f n).function) list) refl
 
 unreached_plain : (f : Facts) (n : ℕ) (x : Named) → ArePlain (unreached_data f n x)
-unreached_plain f n x = otherwise (is_reached f n) _ refl
+unreached_plain f n x = otherwise (is_reached f.map n) _ refl
 
 classless_plain : (f : Facts) (pc : ℕ) (i : Instr) → ArePlain (classless_data f pc i)
-classless_plain f pc i = chosen (has_no_class f pc i) _ refl
+classless_plain f pc i = chosen (has_no_class f.map f.lowering f.classes pc i) _ refl
 
 warnings_plain : (f : Facts) → ArePlain (warnings_data f)
 warnings_plain f =

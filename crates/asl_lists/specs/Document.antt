@@ -1,11 +1,10 @@
 -- The document of the lists of a program (docs/PROOFS.md, "The lists as data"), as JSON data: the members of an object are in the order of their names.
-use Rattle.std.specs.Prelude.{ℕ, zero, suc, ◌++◌, List, [], ◌∷◌, map, Bool, true, false, ◌&&◌, ◌==◌, if◌then◌else◌, codes, Option, None, Some, is_none, slice_get, unwrap_or, encode_utf8_all}
+use Rattle.std.specs.Prelude.{ℕ, zero, suc, ◌++◌, List, [], ◌∷◌, map, Bool, true, false, ◌==◌, if◌then◌else◌, codes, Option, None, Some, slice_get, unwrap_or, encode_utf8_all}
 use Rattle.std.specs.List.{flat_map, list_any}
 use Rattle.serde_json.specs.Data.{Data, null, boolean, string, array, object, member, no_members}
 use Rattle.serde_json.specs.View.{items_of}
 use Rattle.serde_json.specs.Written.{compact_text}
 use Rattle.asl_code.specs.declared.instr.Instr.{Instr}
-use Rattle.asl_code.specs.declared.instr.Instr.TheVariants as instr
 use Rattle.asl_code.specs.declared.lock.Base.{Base}
 use Rattle.asl_code.specs.declared.lock.Base.TheVariants.{Reg, Global}
 use Rattle.asl_code.specs.declared.lock.Lock.{Lock}
@@ -15,7 +14,6 @@ use Rattle.asl_code.specs.declared.path.Op.TheVariants.{Deref, Off}
 use Rattle.asl_code.specs.Locks.{effect_of}
 use Rattle.asl_code.specs.declared.value.Effect.{Effect}
 use Rattle.asl_code.specs.declared.value.Effect.TheVariants.{Read, Write}
-use Rattle.asl_points_to.specs.Classes.{to}
 use Rattle.asl_lock_expr.specs.ClassOf.{class_of}
 use Rattle.asl_map.specs.declared.text_piece.Area.{Area}
 use Rattle.asl_map.specs.declared.text_piece.Named.{Named}
@@ -23,11 +21,12 @@ use Rattle.asl_explain.specs.declared.explained_value.Chain.{Chain}
 use Rattle.asl_explain.specs.declared.explained_value.Step.{Step}
 use Rattle.asl_explain.specs.declared.explained_value.Need.{Need}
 use Rattle.asl_explain.specs.declared.explained_value.Listed.{Listed}
-use Rattle.asl_explain.specs.Told.{spell, effect_word}
+use Rattle.asl_lock_words.specs.Assembly.{spell, effect_word}
+use Rattle.asl_lock_words.specs.Words.{base_name, lock_words}
+use Rattle.asl_warnings.specs.Lacking.{has_no_class, is_reached}
 use Rattle.asl_lists.specs.declared.facts.Facts.{Facts}
 use Rattle.asl_lists.specs.Numbered.{numbered}
-use Rattle.asl_lists.specs.Places.{count, line_of, name_words, function_words, area_data, area_at, owner_at}
-use Rattle.asl_lists.specs.Words.{base_words, lock_words}
+use Rattle.asl_lists.specs.Places.{count, line_of, name_words, function_words, area_data, area_at}
 
 -- ---- locks
 
@@ -39,9 +38,9 @@ kind_word (lock.Root effect) = codes "root"
 -- a register or a global, and its name
 abbrev pub base_data : Facts → ℕ → Base → Data
 base_data f function (Reg register) =
-    object (member (codes "name") (string (base_words f.map function (Reg register))) (member (codes "register") (count register) no_members))
+    object (member (codes "name") (string (base_name f.map function (Reg register))) (member (codes "register") (count register) no_members))
 base_data f function (Global global) =
-    object (member (codes "global") (count global) (member (codes "name") (string (base_words f.map function (Global global))) no_members))
+    object (member (codes "global") (count global) (member (codes "name") (string (base_name f.map function (Global global))) no_members))
 
 abbrev pub lock_base : Facts → ℕ → Lock → Data
 lock_base f function (lock.Expr e effect) = base_data f function e.base
@@ -121,16 +120,12 @@ classes_from f first (suc many) = class_data f first ∷ classes_from f (suc fir
 
 -- ---- functions
 
--- whether `main` reaches the function
-abbrev pub is_reached : Facts → ℕ → Bool
-is_reached f function = unwrap_or (slice_get f.map.reached function) false
-
 abbrev pub function_entry : Facts → ℕ → Named → Data
 function_entry f number n = object
     (member (codes "from") (count n.from)
     (member (codes "line") (count (line_of f.lines.items n.from))
     (member (codes "name") (string (encode_utf8_all n.name))
-    (member (codes "reached") (boolean (is_reached f number))
+    (member (codes "reached") (boolean (is_reached f.map number))
     (member (codes "to") (count n.to) no_members)))))
 
 abbrev pub function_data : Facts → ℕ → Named → List Data
@@ -183,28 +178,14 @@ warning_data f warning function from to = object
 -- a function that `main` does not reach; of another nothing
 abbrev pub unreached_data : Facts → ℕ → Named → List Data
 unreached_data f number n =
-    if is_reached f number then [] else warning_data f (codes "unreached") (encode_utf8_all n.name) n.from n.to ∷ []
+    if is_reached f.map number then [] else warning_data f (codes "unreached") (encode_utf8_all n.name) n.from n.to ∷ []
 
--- the register by which an instruction loads or stores
-abbrev pub address_of : Instr → Option ℕ
-address_of (instr.Load to address) = Some address
-address_of (instr.Store address from) = Some address
-address_of i = None
-
--- the register points to no class
-abbrev pub points_nowhere : Facts → ℕ → Option ℕ → Bool
-points_nowhere f function None = false
-points_nowhere f function (Some register) = is_none (to f.classes function register)
-
--- a load or a store by a register that points to no class, in a function that `main` reaches; of another instruction nothing
-abbrev pub has_no_class : Facts → ℕ → Instr → Bool
-has_no_class f pc i = points_nowhere f (owner_at f.lowering pc) (address_of i) && is_reached f (owner_at f.lowering pc)
-
+-- an access that no class has, by the place of its statement; of another instruction nothing
 abbrev pub classless_at : Facts → Area → Data
 classless_at f a = warning_data f (codes "no class") (function_words f.map a.function) a.from a.to
 
 abbrev pub classless_data : Facts → ℕ → Instr → List Data
-classless_data f pc i = if has_no_class f pc i then classless_at f (area_at f pc) ∷ [] else []
+classless_data f pc i = if has_no_class f.map f.lowering f.classes pc i then classless_at f (area_at f pc) ∷ [] else []
 
 abbrev pub warnings_data : Facts → List Data
 warnings_data f = numbered (unreached_data f) 0 f.map.functions.items ++ numbered (classless_data f) 0 f.lowering.code

@@ -1,6 +1,5 @@
 pub mod Numbered
 pub mod Places
-pub mod Words
 pub mod Document
 pub mod Driver
 pub mod Lengths

@@ -1,12 +1,11 @@
 -- Where something stands in the text (docs/PROOFS.md, "The lists as data").
-use Rattle.std.specs.Prelude.{ℕ, List, [], ◌∷◌, Option, None, Some, if◌then◌else◌, ◌==◌, ◌+◌, nat_lt, length, codes, encode_utf8_all, slice_get, unwrap_or}
+use Rattle.std.specs.Prelude.{ℕ, List, [], ◌∷◌, Option, None, Some, codes, encode_utf8_all, slice_get, unwrap_or}
 use Rattle.serde_json.specs.Data.{Data, number, string, object, unsigned, member, no_members}
-use Rattle.asl_lower.specs.Lowered.{Lowered}
-use Rattle.asl_lower.specs.OpenSections.{owner_of}
 use Rattle.asl_map.specs.declared.map.Map.{Map}
 use Rattle.asl_map.specs.declared.text_piece.Area.{Area}
 use Rattle.asl_map.specs.declared.text_piece.Piece.{Piece}
 use Rattle.asl_map.specs.Names.{function_name}
+use Rattle.asl_warnings.specs.Lacking.{owner_at}
 use Rattle.asl_lists.specs.declared.facts.Facts.{Facts}
 
 -- a number, as data
@@ -37,10 +36,6 @@ area_data f a = object
 abbrev pub piece_area : ℕ → Option Piece → Area
 piece_area function None = record { function = function; from = 0; to = 0 }
 piece_area function (Some p) = record { function = function; from = p.from; to = p.to }
-
--- the function of an instruction
-abbrev pub owner_at : Lowered → ℕ → ℕ
-owner_at l pc = if nat_lt pc (length l.code) then owner_of l.functions pc else 0
 
 abbrev pub area_at : Facts → ℕ → Area
 area_at f pc = piece_area (owner_at f.lowering pc) (slice_get f.map.pieces.items pc)

@@ -2,21 +2,15 @@
 ghost use Rattle.std.specs.Prelude.{◌≡◌, ◌++◌, map, IfOk, OnOk};
 ghost use Rattle.serde_json.specs.View.{view};
 ghost use Rattle.asl_lists.specs.Numbered.{numbered};
-ghost use Rattle.asl_lists.specs.Document.{is_reached, function_entry, function_data};
+ghost use Rattle.asl_lists.specs.Document.{function_entry, function_data};
 
 use crate::facts::Facts;
 use crate::place_values::{line_of, name_words};
 use crate::values::add;
 use asl_map::Named;
+use asl_warnings::is_reached;
 use serde_json::{Value, json};
 use std::alloc::{AllocError, Global};
-
-/// Whether `main` reaches the function of a number.
-pub fn is_reached(facts: &Facts, function: usize) -> bool
-    ensures { result ≡ is_reached facts.now function }
-{
-    facts.map.reached.get(function).copied().unwrap_or(false)
-}
 
 /// A function.
 fn function_value(
@@ -33,7 +27,7 @@ fn function_value(
         "line": line_of(facts, function.from),
         "from": function.from,
         "to": function.to,
-        "reached": is_reached(facts, number),
+        "reached": is_reached(&facts.map, number),
     })
 }
 

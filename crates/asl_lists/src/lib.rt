@@ -10,7 +10,6 @@ mod function_values;
 mod greatest;
 mod listed_source;
 mod lock_values;
-mod lock_words;
 mod place_values;
 mod section_values;
 mod values;

@@ -5,12 +5,12 @@ ghost use Rattle.serde_json.specs.View.{view};
 ghost use Rattle.asl_lists.specs.Document.{kind_word, base_data, lock_base, class_or_null, lock_class, op_data, lock_path, statement_data, need_data, lock_data};
 
 use crate::facts::Facts;
-use crate::lock_words::{assembly_words, base_words, effect_word, lock_words};
 use crate::place_values::{area_at, area_value};
 use crate::values::add;
 use asl_code::{Base, Lock, Op};
 use asl_explain::{Chain, Listed, Need};
 use asl_lock_expr::class_of;
+use asl_lock_words::{assembly_words, base_name, effect_word, lock_words};
 use serde_json::{Value, json};
 use std::alloc::{AllocError, Global};
 
@@ -29,7 +29,7 @@ fn kind_word(lock: &Lock) -> &'static str
 fn base_value(alloc: Global, facts: &Facts, function: u16, base: Base) -> Result<Value, AllocError>
     ensures { IfOk result (λ v. view v ≡ base_data facts.now function base) }
 {
-    let name = base_words(alloc, &facts.map, function, base)?;
+    let name = base_name(alloc, &facts.map, function, base)?;
     match base {
         Base::Reg(register) => json!(in alloc; {"register": register, "name": name}),
         Base::Global(global) => json!(in alloc; {"global": global, "name": name}),

@@ -2,11 +2,12 @@
 ghost use Rattle.std.specs.Prelude.{◌≡◌, IfOk, string_bytes};
 ghost use Rattle.std.specs.Option.{option_copied};
 ghost use Rattle.serde_json.specs.View.{view};
-ghost use Rattle.asl_lists.specs.Places.{line_of, name_words, function_words, area_data, area_at, owner_at};
+ghost use Rattle.asl_lists.specs.Places.{line_of, name_words, function_words, area_data, area_at};
 
 use crate::facts::Facts;
 use asl_map::{Area, Map};
 use asl_syntax::Name;
+use asl_warnings::owner;
 use serde_json::{Value, json};
 use std::alloc::{AllocError, Global};
 
@@ -51,7 +52,7 @@ pub fn area_value(alloc: Global, facts: &Facts, area: &Area) -> Result<Value, Al
 pub fn area_at(facts: &Facts, pc: u16) -> Area
     ensures { result ≡ area_at facts.now pc }
 {
-    let function = owner(facts, pc);
+    let function = owner(&facts.lowering, pc);
     match facts.map.place(pc) {
         Some(piece) => Area {
             function,
@@ -63,16 +64,5 @@ pub fn area_at(facts: &Facts, pc: u16) -> Area
             from: 0,
             to: 0,
         },
-    }
-}
-
-/// The function of an instruction; the first one where there is no such instruction.
-pub fn owner(facts: &Facts, pc: u16) -> u16
-    ensures { result ≡ owner_at facts.now.lowering pc }
-{
-    if usize::from(pc) < facts.lowering.code().len() {
-        facts.lowering.owner(pc)
-    } else {
-        0
     }
 }

@@ -2,14 +2,14 @@
 ghost use Rattle.std.specs.Prelude.{◌≡◌, ◌++◌, ◌≤◌, length, map, IfOk, OnOk};
 ghost use Rattle.serde_json.specs.View.{view};
 ghost use Rattle.asl_lists.specs.Numbered.{numbered};
-ghost use Rattle.asl_lists.specs.Document.{unreached_data, address_of, has_no_class, classless_at, classless_data, warning_data, warnings_data};
+ghost use Rattle.asl_lists.specs.Document.{unreached_data, classless_at, classless_data, warning_data, warnings_data};
 
 use crate::facts::Facts;
-use crate::function_values::is_reached;
-use crate::place_values::{area_at, function_words, line_of, name_words, owner};
+use crate::place_values::{area_at, function_words, line_of, name_words};
 use crate::values::add;
 use asl_code::Instr;
 use asl_map::{Area, Named};
+use asl_warnings::{has_no_class, is_reached};
 use serde_json::{Value, json};
 use std::alloc::{AllocError, Global};
 
@@ -43,38 +43,13 @@ fn push_unreached(
 ) -> Result<(), AllocError>
     ensures { OnOk result (map view values.new.items ≡ map view values.old.items ++ unreached_data facts.now number function.now) }
 {
-    if !is_reached(facts, number) {
+    if !is_reached(&facts.map, number) {
         let name = name_words(alloc, Some(&function.name))?;
         let name = name.as_str();
         let warning = warning_value(alloc, facts, "unreached", name, function.from, function.to)?;
         add(values, warning)?;
     }
     Ok(())
-}
-
-/// The register by which an instruction loads or stores.
-fn address_of(instr: &Instr) -> Option<u8>
-    ensures { result ≡ address_of instr.now }
-{
-    match *instr {
-        Instr::Load { address, .. } => Some(address),
-        Instr::Store { address, .. } => Some(address),
-        _ => None,
-    }
-}
-
-/// Whether the instruction at a pc loads or stores by a register that points to no class, in a function that `main` reaches.
-fn has_no_class(facts: &Facts, pc: u16, instr: &Instr) -> bool
-    ensures { result ≡ has_no_class facts.now pc instr.now }
-{
-    let function = owner(facts, pc);
-    match address_of(instr) {
-        Some(register) => {
-            facts.classes.to(function, register).is_none()
-                && is_reached(facts, usize::from(function))
-        }
-        None => false,
-    }
 }
 
 /// The warning of an access here that no class has.
@@ -96,7 +71,7 @@ fn push_classless(
 ) -> Result<(), AllocError>
     ensures { OnOk result (map view values.new.items ≡ map view values.old.items ++ classless_data facts.now pc instr.now) }
 {
-    if has_no_class(facts, pc, instr) {
+    if has_no_class(&facts.map, &facts.lowering, &facts.classes, pc, instr) {
         let warning = classless_value(alloc, facts, &area_at(facts, pc))?;
         add(values, warning)?;
     }

@@ -1,6 +1,7 @@
 -- The names of faults, as a line of standard error has them (docs/CLI.md, "Refusals"). Numbers are in decimal digits.
 use Rattle.std.specs.Prelude.{ℕ, List, [], ◌∷◌, ◌++◌, codes}
 use Rattle.std.specs.Fmt.{decimal}
+use Rattle.std.specs.List.{flat_map}
 use Rattle.asl_code.specs.declared.fault.VerifyFault.{VerifyFault}
 use Rattle.asl_code.specs.declared.fault.VerifyFault.TheVariants as verify
 use Rattle.asl_code.specs.declared.value.Effect.{Effect}
@@ -157,6 +158,13 @@ check_text (check.Infer cause) = infer_text cause
 check_text (check.OtherCode pc) = numbered (codes "OtherCode") pc
 check_text (check.Uncovered section l) = lacking_text (codes "Uncovered") section l
 check_text (check.Unguarded section l) = lacking_text (codes "Unguarded") section l
+
+-- its line on standard error, and the lines of several
+abbrev pub check_line : CheckFault → List ℕ
+check_line f = codes "asl: " ++ check_text f ++ codes "\n"
+
+abbrev pub check_lines : List CheckFault → List ℕ
+check_lines = flat_map check_line
 
 -- of a journal
 abbrev pub journal_text : JournalFault → List ℕ

@@ -3,10 +3,12 @@
 //! part.
 #![tactic(auto)]
 
+mod check_lines;
 mod fault_text;
 mod line_text;
 mod lock_text;
 
+pub use check_lines::lines_of_checks;
 pub use fault_text::{
     push_assembly, push_check, push_file, push_image, push_infer, push_journal, push_map, push_run,
     push_source,

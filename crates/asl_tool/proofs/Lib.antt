@@ -18,3 +18,4 @@ mod Telling
 mod OverMemory
 mod Printing
 mod Found
+mod Checking

@@ -63,7 +63,7 @@ one_outcome texts bytes command.Assemble input o p settled all x y =
 one_outcome texts bytes command.Disassemble input o p settled all x y =
     image_one bytes input o p all (image_is input o (cases command.Disassemble input o x)) (image_is input p (cases command.Disassemble input p y))
 one_outcome texts bytes (command.Compile k_limit as_text) input o p settled all x y = absurd settled
-one_outcome texts bytes (command.Check k_limit) input o p settled all x y = absurd settled
+one_outcome texts bytes (command.Check k_limit all_lacks) input o p settled all x y = absurd settled
 one_outcome texts bytes command.Map input o p settled all x y = absurd settled
 one_outcome texts bytes (command.Explain k_limit all classes) input o p settled all_ x y = absurd settled
 one_outcome texts bytes (command.Lists k_limit entries) input o p settled all_ x y = absurd settled
@@ -201,7 +201,7 @@ some_outcome texts bytes (command.Debug words) input settled all =
     let o = some_debug words.items input q.0 q.1 in
     (o.0, uncased (command.Debug words) input o.0 o.1)
 some_outcome texts bytes (command.Compile k_limit as_text) input settled all = absurd settled
-some_outcome texts bytes (command.Check k_limit) input settled all = absurd settled
+some_outcome texts bytes (command.Check k_limit all_lacks) input settled all = absurd settled
 some_outcome texts bytes command.Map input settled all = absurd settled
 some_outcome texts bytes (command.Explain k_limit all classes) input settled all_ = absurd settled
 some_outcome texts bytes (command.Lists k_limit entries) input settled all_ = absurd settled

@@ -1,16 +1,18 @@
 -- The command `c`: sources with entries and without, and the longest paths.
-use Rattle.std.proofs.Common.{◌≡◌, ◌<◌, ◌++◌, ℕ, Bool, List, [], ◌∷◌, length, map, Option, None, Some, ◌⊎◌, inl, inr, subst, sym, ◌∙◌, arith}
+use Rattle.std.proofs.Common.{◌≡◌, ◌<◌, ◌++◌, ℕ, Bool, List, [], ◌∷◌, length, map, Option, None, Some, ◌⊎◌, ◌≢◌, get_or, take, inl, inr, subst, sym, ◌∙◌, arith}
 use Rattle.asl_emitter.specs.declared.fault.InferFault.TheVariants as infer
 use Rattle.asl_emitter.specs.Sources.{HasRefusedTree}
 use Rattle.asl_lists.specs.declared.whole.Whole.{Whole}
 use Rattle.asl_lists.specs.Driver.{IsWhole}
 use Rattle.asl_tool.specs.declared.command_fault.CommandFault.{CommandFault}
 use Rattle.asl_tool.specs.declared.command_fault.CommandFault.TheVariants as fault
-use Rattle.asl_tool.specs.C.{IsPrinted, IsPrintedEntries, IsPrintedWhole, IsProgramAt, IsRefusedAt, IsRefusedEntries, IsRefusedPrinting, IsRefusedWhole, IsTooMany, IsUnknownIn, IsUnknownOf}
+use Rattle.asl_tool.specs.C.{IsPrinted, IsPrintedEntries, IsPrintedWhole, IsProgramAt, IsRefusedAt, IsRefusedEntries, IsRefusedPrinting, IsRefusedWhole, IsTooMany, IsUnknownIn, IsUnknownOf, replaced}
 use Rattle.asl_code.specs.declared.image.Image.{Image}
 use Rattle.asl_command_line.specs.declared.command.Replacement.{Replacement}
 use Rattle.asl_map.specs.declared.map.Map.{Map}
 use Rattle.asl_map.specs.Mapped.{IsMapped}
+use Rattle.asl_map.specs.Names.{function_name}
+use Rattle.asl_syntax.specs.declared.fault.SyntaxFault.TheVariants as syntax
 use Rattle.asl_tool.specs.Compile.{IsProgramFor, IsRefusedSource}
 
 module _ {X : Type 0} (bytes : X → List ℕ) (source : List ℕ) (k : Option ℕ) (externs : List Replacement) where
@@ -51,6 +53,11 @@ text_refused source k externs image f p (inr unknown) = inr unknown
 pub unknown_of : (source : List ℕ) (m : Map) (externs : List Replacement) (f : CommandFault) → IsMapped source m → ((f ≡ fault.OutOfMemory) ⊎ IsUnknownIn m externs f) → (f ≡ fault.OutOfMemory) ⊎ IsUnknownOf source externs f
 unknown_of source m externs f mapped (inl memory) = inl memory
 unknown_of source m externs f mapped (inr unknown) = inr (m, mapped, unknown)
+
+-- a function that the map does not have is one that is to be called in C
+pub unknown_function : (m : Map) (externs : List Replacement) (r : Replacement) (i : ℕ) (f : CommandFault) → i < length externs → r ≡ get_or externs i r
+    → f ≡ fault.Source (syntax.Unknown (take 64 (replaced r))) → ((function : ℕ) → function < 256 → function_name m function ≢ Some (replaced r)) → IsUnknownIn m externs f
+unknown_function m externs r i f below at is none = (r, (i, (below, sym at)), is, none)
 
 -- where some region needs too many locks, the refusal names it
 pub too_many : (source : List ℕ) (k : ℕ) (f : CommandFault) → IsTooMany f → IsRefusedSource source k f → (region : _) × HasRefusedTree source k (infer.TooManyLocks region)

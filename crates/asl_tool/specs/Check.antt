@@ -1,5 +1,5 @@
 -- What the command `check` answers (docs/ANALYSIS.md, "Lists of your own").
-use Rattle.std.specs.Prelude.{◌≡◌, ◌≢◌, ℕ, List, ◌∷◌, ◌++◌, All, length, codes}
+use Rattle.std.specs.Prelude.{◌≡◌, ◌≢◌, ◌⊎◌, ℕ, Bool, true, List, ◌∷◌, ◌++◌, All, length, codes}
 use Rattle.std.specs.Fmt.{decimal}
 use Rattle.asl_code.specs.declared.image.Image.{Image}
 use Rattle.asl_syntax.specs.Tree.{Item}
@@ -9,7 +9,9 @@ use Rattle.asl_soundness.specs.Safe.{NeverFaultsForLocks}
 use Rattle.asl_atomicity.specs.Serial.{HasSerialRuns}
 use Rattle.asl_atomicity.specs.Renamed.{HasSerialRunsUpTo}
 use Rattle.asl_check.specs.Refused as lists
+use Rattle.asl_check.specs.Missing.{LacksAll, IsBeforeLists}
 use Rattle.asl_check.specs.declared.fault.CheckFault.{CheckFault}
+use Rattle.asl_refusal_text.specs.FaultText.{check_lines}
 use Rattle.asl_tool.specs.declared.input_program.ProgramFault.{ProgramFault}
 use Rattle.asl_tool.specs.declared.command_fault.CommandFault.{CommandFault}
 use Rattle.asl_tool.specs.declared.command_fault.CommandFault.TheVariants as fault
@@ -71,22 +73,51 @@ pub record HasOtherLists (source program : List ℕ) (k_limit : ℕ) (cause : Ch
   pub read : IsProgram program image
   pub refused : lists.IsRefusedLists tree k_limit image cause
 
--- what each refusal says of the two sides; lack of memory for the line comes only where the lists are enough
-abbrev pub IsRefusedPair : List ℕ → List ℕ → ℕ → CommandFault → Type 0
-IsRefusedPair source program k_limit (fault.Source cause) = syntax.IsFault source cause
-IsRefusedPair source program k_limit (fault.Program cause) = HasNoProgram source program cause
-IsRefusedPair source program k_limit (fault.Check cause) = HasOtherLists source program k_limit cause
-IsRefusedPair source program k_limit fault.OutOfMemory = (sections : ℕ) × AreEnough source program k_limit sections
-IsRefusedPair source program k_limit f = ⊥
+-- of what is refused before lists are judged there is no more to tell; else all that the lists lack is told where it is asked for
+abbrev pub IsWholeAnswer : Bool → CheckFault → Type 0
+IsWholeAnswer all cause = all ≡ true → IsBeforeLists cause
+
+-- these are all that the lists of the program lack, and the first is what the check refuses it with
+abbrev pub AreMissing : List Item → Image → ℕ → CheckFault → List CheckFault → Type 0
+AreMissing is image k_limit first rest = lists.IsRefusedLists is k_limit image first × LacksAll is k_limit image (first ∷ rest)
+
+-- the same of two sides that are what they should be
+pub record HasMissing (source program : List ℕ) (k_limit : ℕ) (first : CheckFault) (rest : List CheckFault) : Type 0 where
+  pub tree : List Item
+  pub image : Image
+  pub parsed : Parses source tree
+  pub read : IsProgram program image
+  pub missing : AreMissing tree image k_limit first rest
+
+-- what each refusal says of the two sides; lack of memory for the output comes only where the lists are enough, or where all that they
+-- lack is asked for and they lack something
+abbrev pub IsRefusedPair : List ℕ → List ℕ → ℕ → Bool → CommandFault → Type 0
+IsRefusedPair source program k_limit all (fault.Source cause) = syntax.IsFault source cause
+IsRefusedPair source program k_limit all (fault.Program cause) = HasNoProgram source program cause
+IsRefusedPair source program k_limit all (fault.Check cause) = HasOtherLists source program k_limit cause × IsWholeAnswer all cause
+IsRefusedPair source program k_limit all (fault.Missing first lines) =
+    (all ≡ true) × ((rest : List CheckFault) × HasMissing source program k_limit first rest × (lines.items ≡ check_lines (first ∷ rest)))
+IsRefusedPair source program k_limit all fault.OutOfMemory =
+    ((sections : ℕ) × AreEnough source program k_limit sections)
+    ⊎ ((all ≡ true) × ((first : CheckFault) × (rest : List CheckFault) × HasMissing source program k_limit first rest))
+IsRefusedPair source program k_limit all f = ⊥
+
+-- the same of a tree and a program that the check refuses
+abbrev pub IsRefusedProgram : List Item → Image → ℕ → Bool → CommandFault → Type 0
+IsRefusedProgram is image k_limit all (fault.Check cause) = lists.IsRefusedLists is k_limit image cause × IsWholeAnswer all cause
+IsRefusedProgram is image k_limit all (fault.Missing first lines) =
+    (all ≡ true) × ((rest : List CheckFault) × AreMissing is image k_limit first rest × (lines.items ≡ check_lines (first ∷ rest)))
+IsRefusedProgram is image k_limit all fault.OutOfMemory = (all ≡ true) × ((first : CheckFault) × (rest : List CheckFault) × AreMissing is image k_limit first rest)
+IsRefusedProgram is image k_limit all f = ⊥
 
 -- the input has two sides, and they are refused
-pub record HasRefusedPair (input : List ℕ) (k_limit : ℕ) (f : CommandFault) : Type 0 where
+pub record HasRefusedPair (input : List ℕ) (k_limit : ℕ) (all : Bool) (f : CommandFault) : Type 0 where
   pub source : List ℕ
   pub program : List ℕ
   pub sides : HasSides input source program
-  pub refused : IsRefusedPair source program k_limit f
+  pub refused : IsRefusedPair source program k_limit all f
 
 -- what each refusal of `check` says of the input
-abbrev pub IsRefusedCheck : List ℕ → ℕ → CommandFault → Type 0
-IsRefusedCheck input k_limit fault.NoProgram = HasNoSides input
-IsRefusedCheck input k_limit f = HasRefusedPair input k_limit f
+abbrev pub IsRefusedCheck : List ℕ → ℕ → Bool → CommandFault → Type 0
+IsRefusedCheck input k_limit all fault.NoProgram = HasNoSides input
+IsRefusedCheck input k_limit all f = HasRefusedPair input k_limit all f

@@ -45,7 +45,7 @@ pub record IsDisassembled (bytes text : List ℕ) : Type 0 where
 
 -- the explanation of the source's lists, or the text of its classes
 abbrev pub IsExplained : List ℕ → ℕ → Bool → Bool → List ℕ → Type 0
-IsExplained input k_limit all false text = IsText input k_limit text
+IsExplained input k_limit all false text = IsText input k_limit all text
 IsExplained input k_limit all true text = IsClassText input all text
 
 -- the output of each command for an input
@@ -54,7 +54,7 @@ IsOutput (command.Step threads schedule record_it) input output = IsStepped inpu
 IsOutput command.Assemble input image = IsAssembled input image
 IsOutput command.Disassemble input text = IsDisassembled input text
 IsOutput (command.Compile k_limit as_text) input output = IsCompiled input k_limit as_text output
-IsOutput (command.Check k_limit) input text = IsChecked input k_limit text
+IsOutput (command.Check k_limit all) input text = IsChecked input k_limit text
 IsOutput command.Map input text = IsMapText input text
 IsOutput (command.Explain k_limit all classes) input text = IsExplained input k_limit all classes text
 IsOutput (command.Lists k_limit entries) input text = IsListed input k_limit (each string_bytes entries.items) text
@@ -125,7 +125,7 @@ IsRefusedCommand (command.Step threads schedule record_it) input f = IsRefusedSt
 IsRefusedCommand command.Assemble input f = IsRefusedText input f
 IsRefusedCommand command.Disassemble input f = IsRefusedImage input f
 IsRefusedCommand (command.Compile k_limit as_text) input f = IsRefusedSource input k_limit f
-IsRefusedCommand (command.Check k_limit) input f = IsRefusedCheck input k_limit f
+IsRefusedCommand (command.Check k_limit all) input f = IsRefusedCheck input k_limit all f
 IsRefusedCommand command.Map input f = IsRefusedMap input f
 IsRefusedCommand (command.Explain k_limit all classes) input f = IsRefusedExplain input k_limit f
 IsRefusedCommand (command.Lists k_limit entries) input f = IsRefusedListing input k_limit (each string_bytes entries.items) f

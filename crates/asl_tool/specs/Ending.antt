@@ -2,7 +2,7 @@
 use Rattle.std.specs.Prelude.{ℕ, List, []}
 use Rattle.asl_tool.specs.declared.endings.ending.Ending.{Ending}
 use Rattle.asl_tool.specs.declared.endings.ending.Ending.TheVariants.{Done, Refused, WrongUsage}
-use Rattle.asl_tool.specs.FaultLine.{fault_line}
+use Rattle.asl_tool.specs.FaultLine.{fault_lines}
 
 -- the status
 abbrev pub ending_status : Ending → ℕ
@@ -10,8 +10,8 @@ ending_status Done = 0
 ending_status (Refused fault) = 1
 ending_status (WrongUsage text) = 2
 
--- what is said: nothing, the line of the refusal, or the text that says why the words are no legal use
+-- what is said: nothing, the line or the lines of the refusal, or the text that says why the words are no legal use
 abbrev pub ending_text : Ending → List ℕ
 ending_text Done = []
-ending_text (Refused fault) = fault_line fault
+ending_text (Refused fault) = fault_lines fault
 ending_text (WrongUsage text) = text.bytes.items

@@ -1,4 +1,4 @@
--- The line that standard error gets of a fault (docs/CLI.md, "Refusals").
+-- The line that standard error gets of a fault, or its lines (docs/CLI.md, "Refusals").
 use Rattle.std.specs.Prelude.{ℕ, List, ◌++◌, codes}
 use Rattle.asl_refusal_text.specs.FaultText.{asm_text, load_text, syntax_text, infer_text, check_text, map_text, file_text, journal_text, run_text}
 use Rattle.asl_tool.specs.declared.streams.ReadFault.{ReadFault}
@@ -28,6 +28,7 @@ command_text (command.Source cause) = syntax_text cause
 command_text (command.Infer cause) = infer_text cause
 command_text command.NoProgram = codes "NoProgram"
 command_text (command.Check cause) = check_text cause
+command_text (command.Missing first lines) = check_text first
 command_text (command.Map cause) = map_text cause
 command_text (command.File cause) = file_text cause
 command_text (command.Journal cause) = journal_text cause
@@ -44,3 +45,8 @@ fault_text fault.OutOfMemory = codes "OutOfMemory"
 -- its line
 abbrev pub fault_line : ToolFault → List ℕ
 fault_line f = codes "asl: " ++ fault_text f ++ codes "\n"
+
+-- what is told of it: its line, or the lines that it carries
+abbrev pub fault_lines : ToolFault → List ℕ
+fault_lines (fault.Command (command.Missing first lines)) = lines.items
+fault_lines f = fault_line f

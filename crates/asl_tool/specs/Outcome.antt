@@ -44,7 +44,7 @@ IsOutcome command input (Err f) = IsRefusedCommand command input f × (IsWantOfM
 -- too many locks; of `map`, `explain`, `lists` and `diagnose` it is not said
 abbrev pub IsSettled : Command → Type 0
 IsSettled (command.Compile k_limit as_text) = ⊥
-IsSettled (command.Check k_limit) = ⊥
+IsSettled (command.Check k_limit all) = ⊥
 IsSettled command.Map = ⊥
 IsSettled (command.Explain k_limit all classes) = ⊥
 IsSettled (command.Lists k_limit entries) = ⊥

@@ -14,7 +14,7 @@ use Rattle.asl_tool.specs.declared.command_fault.CommandFault.{CommandFault}
 use Rattle.asl_tool.specs.declared.streams.WriteFault.{WriteFault}
 use Rattle.asl_tool.specs.declared.tool_fault.ToolFault.{ToolFault}
 use Rattle.asl_tool.specs.declared.tool_fault.ToolFault.TheVariants as fault
-use Rattle.asl_tool.specs.FaultLine.{fault_line}
+use Rattle.asl_tool.specs.FaultLine.{fault_line, fault_lines}
 use Rattle.asl_tool.specs.Streams.{AppendsPart, IsReadFault, LacksRoom, most_input}
 use Rattle.asl_tool.specs.Command.{IsOutput, IsRunFile, IsRefusedCommand}
 use Rattle.asl_tool.specs.Work.{IsWorkOutput, IsRefusedWork}
@@ -68,11 +68,11 @@ Refuses unwritten known room old new promise (fault.Command cause) = RefusesInpu
 Refuses unwritten known room old new promise (fault.Write cause) = WritesPart known room old new promise
 Refuses unwritten known room old new promise fault.OutOfMemory = ⊥
 
--- the status of a command, with what the writer got: 0 with the output, 1 with a refusal, whose line standard error gets
+-- the status of a command, with what the writer got: 0 with the output, 1 with a refusal, whose line or lines standard error gets
 abbrev pub IsCommandStatus : Type 0 → (List ℕ → Type 0) → Option (List ℕ) → Option ℕ → Option (List ℕ) → Option (List ℕ) → Promise → ℕ → Type 0
 IsCommandStatus unwritten tells known room old new promise status =
     ((status ≡ 0) × WritesOutput known old new promise)
-    ⊎ ((status ≡ 1) × ((f : ToolFault) × Refuses unwritten known room old new promise f × tells (fault_line f)))
+    ⊎ ((status ≡ 1) × ((f : ToolFault) × Refuses unwritten known room old new promise f × tells (fault_lines f)))
 
 -- the status of a text that is shown: 0 with the text, 1 with a first part of it, where the writer is not known to have room for all, and
 -- the line that the output failed

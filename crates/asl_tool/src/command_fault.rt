@@ -28,6 +28,9 @@ pub enum CommandFault {
     /// The program is not the source's, or its lists are not enough.
     #[error(transparent)]
     Check(CheckFault),
+    /// The lists are not enough, and all that they lack was asked for: the first of it, and the line of each.
+    #[error("{0}")]
+    Missing(CheckFault, Vec<u8>),
     /// The input has no map.
     #[error(transparent)]
     Map(MapFault),

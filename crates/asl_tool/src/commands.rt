@@ -42,7 +42,7 @@ pub fn output_of(alloc: Global, command: &Command, input: &[u8]) -> Result<Vec<u
         Command::Assemble => asm::assembled(alloc, input),
         Command::Disassemble => dis::disassembled(alloc, input),
         Command::Compile { k_limit, text } => compile::compiled(alloc, k_limit, *text, input),
-        Command::Check { k_limit } => check::checked(alloc, k_limit, input),
+        Command::Check { k_limit, all } => check::checked(alloc, k_limit, *all, input),
         Command::Map => map::mapped_source(alloc, input),
         Command::Explain {
             k_limit,

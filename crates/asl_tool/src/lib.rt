@@ -21,4 +21,4 @@ pub use endings::over_memory::{Ended, ended_over};
 pub use endings::tool::{ended_alone, tool, tool_alone};
 pub use input_program::ProgramFault;
 pub use streams::{ReadFault, WriteFault, read_whole, write_whole};
-pub use tool_fault::{ToolFault, line_of};
+pub use tool_fault::{ToolFault, line_of, lines_of};

@@ -1,7 +1,7 @@
 //! Why the program did not do what its words ask for, and the line that standard error gets of it.
-ghost use Rattle.std.specs.Prelude.{◌≡◌, ◌+◌, ◌<◌, ◌≤◌, ◌++◌, length, OnOk, OnErr};
+ghost use Rattle.std.specs.Prelude.{◌≡◌, ◌+◌, ◌<◌, ◌≤◌, ◌++◌, length, MatchOption, OnOk, OnErr};
 ghost use Rattle.std.specs.Io.KnownBytes.{Appends};
-ghost use Rattle.asl_tool.specs.FaultLine.{read_text, program_text, command_text, fault_text, fault_line};
+ghost use Rattle.asl_tool.specs.FaultLine.{read_text, program_text, command_text, fault_text, fault_line, fault_lines};
 ghost use Rattle.asl_tool.specs.Streams.{Tells};
 
 use crate::byte_streams::ByteSink;
@@ -63,7 +63,7 @@ fn push_command(line: &mut Line, fault: &CommandFault) -> Result<(), CapacityErr
         CommandFault::Source(cause) => push_source(line, cause),
         CommandFault::Infer(cause) => push_infer(line, *cause),
         CommandFault::NoProgram => push(line, "NoProgram"),
-        CommandFault::Check(cause) => push_check(line, cause),
+        CommandFault::Check(cause) | CommandFault::Missing(cause, _) => push_check(line, cause),
         CommandFault::Map(cause) => push_map(line, cause),
         CommandFault::File(cause) => push_file(line, cause),
         CommandFault::Journal(cause) => push_journal(line, *cause),
@@ -105,15 +105,30 @@ pub fn line_of(fault: &ToolFault) -> Line
     line
 }
 
-/// Writes the line of a fault, which is always made: only the writer may fail.
+/// The lines that a fault carries, of which the first is its line; none where it has that alone.
+pub fn lines_of(fault: &ToolFault) -> Option<&[u8]>
+    ensures { MatchOption result (fault_lines fault.now ≡ fault_line fault.now) (λ lines. lines.now ≡ fault_lines fault.now) }
+{
+    match fault {
+        ToolFault::Command(CommandFault::Missing(_, lines)) => Some(lines.as_slice()),
+        _ => None,
+    }
+}
+
+/// Writes the line of a fault, or its lines, which are always made: only the writer may fail.
 ///
 /// # Errors
 ///
-/// The writer failed, or took no byte; it holds a first part of the line then.
+/// The writer failed, or took no byte; it holds a first part of the text then.
 pub fn tell<E: ByteSink>(errors: &mut E, fault: &ToolFault) -> Result<(), WriteFault>
-    ensures ok { OnOk result (Appends (E.contents errors.old) (E.contents errors.new) (fault_line fault.now)) }
-    ensures told { Tells (E.room errors.old) (E.contents errors.old) (E.contents errors.new) (fault_line fault.now) }
+    ensures ok { OnOk result (Appends (E.contents errors.old) (E.contents errors.new) (fault_lines fault.now)) }
+    ensures told { Tells (E.room errors.old) (E.contents errors.old) (E.contents errors.new) (fault_lines fault.now) }
 {
-    let line = line_of(fault);
-    write_whole(errors, line.as_slice())
+    match lines_of(fault) {
+        Some(lines) => write_whole(errors, lines),
+        None => {
+            let line = line_of(fault);
+            write_whole(errors, line.as_slice())
+        }
+    }
 }

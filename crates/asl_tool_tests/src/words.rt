@@ -13,7 +13,7 @@ enum Wanted {
     Replay,
     Log(bool),
     Compile(u32, bool),
-    Check(u32),
+    Check(u32, bool),
     Map,
     Explain(u32, bool, bool),
     Lists(Option<u32>, usize),
@@ -53,8 +53,9 @@ fn is_command(got: &Command, wanted: &Wanted) -> bool {
         Command::Compile { k_limit, text } => {
             matches!(wanted, Wanted::Compile(k, is_text) if k_limit.operations() == *k && text == is_text)
         }
-        Command::Check { k_limit } =>
-            matches!(wanted, Wanted::Check(k) if k_limit.operations() == *k),
+        Command::Check { k_limit, all } => {
+            matches!(wanted, Wanted::Check(k, flag) if k_limit.operations() == *k && all == flag)
+        }
         Command::Map => matches!(wanted, Wanted::Map),
         Command::Explain {
             k_limit,
@@ -316,10 +317,12 @@ fn compiling(rt: HostRuntime) {
     check(&rt, &COMPILATIONS);
 }
 
-static CHECKS: [Row; 34] = [
-    ("check", Wanted::Check(3)),
-    ("check --k 0", Wanted::Check(0)),
-    ("check --k=8", Wanted::Check(8)),
+static CHECKS: [Row; 36] = [
+    ("check", Wanted::Check(3, false)),
+    ("check --k 0", Wanted::Check(0, false)),
+    ("check --k=8", Wanted::Check(8, false)),
+    ("check --all", Wanted::Check(3, true)),
+    ("check --all --k 1", Wanted::Check(1, true)),
     ("check --help", Wanted::Help),
     ("check --k 9", Wanted::WrongUsage),
     ("check --k", Wanted::WrongUsage),

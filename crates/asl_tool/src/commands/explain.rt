@@ -39,7 +39,7 @@ fn lists_of(
     all: bool,
     source: &[u8],
 ) -> Result<Vec<u8>, CommandFault>
-    ensures ok { IfOk result (λ text. IsText source.now k_limit.now text.items) }
+    ensures ok { IfOk result (λ text. IsText source.now k_limit.now all text.items) }
     ensures err { IfErr result (λ fault. IsRefusedExplain source.now k_limit.now fault) }
 {
     match explained(alloc, source, k_limit.operations(), all) {

@@ -1,0 +1,6 @@
+mod AsBox
+pub mod Bodies
+mod Intention
+mod Numbered
+mod Sectioned
+mod Sends

@@ -1,0 +1,37 @@
+-- A slot goes to another thread where a box of a program does.
+use mathlib.Core.Bool.{Bool, true, false}
+use base.Fraction.{full_share}
+use base.Shift.{Keyless}
+use mir.Raw.{raw}
+use denote.Exit.{Exit, unchanged, leaves, hidden, under}
+use denote.Memory.{lone}
+use denote.RattleType.{RattleType}
+use denote.RawPtr.{Ptr, block_ptr, null_ptr, lies_at}
+use denote.Struct.Struct.{exits_of}
+use denote.Struct.Owning.{shape, fields, to}
+use denote.Param.Send.{IsSend, AllSend, Quiet, part_keyless, owning_send, struct_send, sendable}
+use Rattle.std.specs.declared.alloc.Global.{Global}
+use Rattle.std.proofs.Crossing as heap
+use Rattle.std.proofs.alloc.Global.TheSendSync as handle
+use Rattle.asl_c_programs.specs.contracts.opened.Opened as Opened
+use Rattle.asl_c_programs.proofs.opened.Opened.TheSendSync.{the_send as opened}
+use Rattle.asl_c_programs.specs.Owned.{Kept, slot_owns}
+use Rattle.asl_c_programs.specs.contracts.program_slot.Slot.{the_row, the_type}
+
+quiet : {D X : Type 0} (to : D → X) (e : Exit X) → Quiet e → Quiet (hidden (under to e))
+quiet to unchanged q = λ x w. tt
+quiet to (leaves L l S s r₀) q = λ d. q (to d)
+
+lies : (R : RattleType) → IsSend R → (p : Ptr) (x : R.Denot) → Keyless (lies_at R full_share p x)
+lies R s (block_ptr b o) x = part_keyless R s full_share x b o
+lies R s null_ptr x = tt
+
+owned : (b : Bool) (a : Global) (p : Ptr) (x : Kept) → Keyless (slot_owns b a p x)
+owned true a p x = (lies Opened.the_row opened p x, (heap.frees).frees a (raw (lone (Opened.the_row).mir)) p)
+owned false a p x = tt
+
+pub send : IsSend the_row
+send =
+    let all : AllSend (fields the_type) = (search sendable, (handle.the_field_send, tt)) in
+    owning_send the_type all (λ d. owned d.owned d.alloc d.at d.program)
+    (λ k. quiet (to the_type) (exits_of k (fields the_type)) ((struct_send (shape the_type) all).leaving k))
