@@ -30,7 +30,7 @@ right_more n words word here before right i other below there =
           let same : i ≡ n = omega (arith, below, more) in
           let one : word ≡ other = ap (λ (o : Option Text). unwrap_or o word) (sym here ∙ subst (λ k. slice_get words k ≡ Some other) same there) in
           subst (λ k. (why : WhyNot) → ¬ IsWrong (take k words) other why) (sym same) (subst (λ w. (why : WhyNot) → ¬ IsWrong (take n words) w why) one right)
-      ]
+    ]
 
 -- the same of texts, by the words before
 module _ (words : List (Bor Text)) (n : ℕ) (word : Text) (here : slice_get (texts words) n ≡ Some word) where

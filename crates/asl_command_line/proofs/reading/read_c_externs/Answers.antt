@@ -11,9 +11,12 @@ returns-in-Err-NoExtern c =
     let rows = rows_of (found_of c.args.values.now) in
     let err = subst (IsExternsFault (words_at (codes "extern") rows)) c.in-Err-NoExtern.field-0-is c.in-Err-NoExtern.ensures.err in
     misused c.no_extern.result (codes "c") rows _ c.no_extern.ensures
-    (inr (inr (inr (inr (inr (inr (refl, record {
-      word = c.in-Err-NoExtern.word.now;
-      why = c.in-Err-NoExtern.why;
-      wrong = err;
-      text_is = told_alike c.in-Err-NoExtern.word-is c.in-Err-NoExtern.why-is;
-    })))))))
+    (inr (inr (inr (inr (inr (inr (
+      refl,
+      record {
+        word = c.in-Err-NoExtern.word.now;
+        why = c.in-Err-NoExtern.why;
+        wrong = err;
+        text_is = told_alike c.in-Err-NoExtern.word-is c.in-Err-NoExtern.why-is;
+      },
+    )))))))
