@@ -1,5 +1,5 @@
 -- What `check` says of a tree and a program, said of the two sides that they were read from.
-use Rattle.std.proofs.Common.{◌≡◌, ℕ, Bool, true, List, inl, inr}
+use Rattle.std.proofs.Common.{ℕ, Bool, List, inr}
 use Rattle.asl_code.specs.declared.image.Image.{Image}
 use Rattle.asl_syntax.specs.Tree.{Item}
 use Rattle.asl_syntax.specs.Parsed.{Parses}

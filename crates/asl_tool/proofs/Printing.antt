@@ -1,5 +1,5 @@
 -- The command `c`: sources with entries and without, and the longest paths.
-use Rattle.std.proofs.Common.{◌≡◌, ◌<◌, ◌++◌, ℕ, Bool, List, [], ◌∷◌, length, map, Option, None, Some, ◌⊎◌, ◌≢◌, get_or, take, inl, inr, subst, sym, ◌∙◌, arith}
+use Rattle.std.proofs.Common.{◌≡◌, ◌<◌, ℕ, Bool, List, [], ◌∷◌, length, map, Option, None, Some, ◌⊎◌, ◌≢◌, get_or, take, inl, inr, subst, sym, ◌∙◌, arith}
 use Rattle.asl_emitter.specs.declared.fault.InferFault.TheVariants as infer
 use Rattle.asl_emitter.specs.Sources.{HasRefusedTree}
 use Rattle.asl_lists.specs.declared.whole.Whole.{Whole}
@@ -57,7 +57,7 @@ unknown_of source m externs f mapped (inr unknown) = inr (m, mapped, unknown)
 -- a function that the map does not have is one that is to be called in C
 pub unknown_function : (m : Map) (externs : List Replacement) (r : Replacement) (i : ℕ) (f : CommandFault) → i < length externs → r ≡ get_or externs i r
     → f ≡ fault.Source (syntax.Unknown (take 64 (replaced r))) → ((function : ℕ) → function < 256 → function_name m function ≢ Some (replaced r)) → IsUnknownIn m externs f
-unknown_function m externs r i f below at is none = (r, (i, (below, sym at)), is, none)
+unknown_function m externs r i f below at is none = (r, (i, below, sym at), is, none)
 
 -- where some region needs too many locks, the refusal names it
 pub too_many : (source : List ℕ) (k : ℕ) (f : CommandFault) → IsTooMany f → IsRefusedSource source k f → (region : _) × HasRefusedTree source k (infer.TooManyLocks region)

@@ -110,7 +110,10 @@ fn text_of(
     let Ok(map) = map_of(alloc, source) else {
         return Err(CommandFault::OutOfMemory);
     };
-    let options = options_of(alloc, &map, checks, entries, externs)?;
+    let options = match options_of(alloc, &map, checks, entries, externs) {
+        Ok(options) => options,
+        Err(fault) => return Err(fault),
+    };
     let mut text = Vec::new(alloc);
     match put_program(alloc, &mut text, program, &options) {
         Ok(()) => Ok(text),

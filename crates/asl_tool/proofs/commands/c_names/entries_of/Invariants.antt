@@ -1,6 +1,6 @@
 -- those that are found and those that are left are all
-use Rattle.std.specs.Prelude.{Option, Some}
-use Rattle.std.proofs.Common.{◌≡◌, ◌++◌, ℕ, List, drop, map, string_bytes}
+use Rattle.std.specs.Prelude.{Some}
+use Rattle.std.proofs.Common.{◌≡◌, ◌++◌, drop, map, string_bytes}
 use Rattle.asl_map.specs.Names.{function_name}
 use Rattle.asl_parallel_c.specs.declared.options.Extern.{Extern}
 use Rattle.asl_tool.specs.C.{c_entry}

@@ -1,4 +1,4 @@
-use Rattle.std.proofs.Common.{rules, Some, ℕ, List, ap, inr, sym, take, ◌∙◌, string_bytes}
+use Rattle.std.proofs.Common.{rules, Some, ℕ, List, ap, inr, take, ◌∙◌, string_bytes}
 use Rattle.asl_map.specs.Names.{function_name}
 use Rattle.asl_parallel_c.specs.declared.options.Extern.{Extern}
 use Rattle.asl_syntax.specs.declared.fault.SyntaxFault.TheVariants as syntax

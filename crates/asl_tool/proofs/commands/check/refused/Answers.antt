@@ -1,4 +1,4 @@
-use Rattle.std.proofs.Common.{◌≡◌, ◌↔◌, ◌∷◌, [], ℕ, Bool, true, List, MatchBool, ap, ◌∙◌, subst}
+use Rattle.std.proofs.Common.{◌≡◌, ◌↔◌, ◌∷◌, [], Bool, List, MatchBool, ap, ◌∙◌, subst}
 use Rattle.asl_syntax.specs.AstView.{tree_of}
 use Rattle.asl_check.specs.declared.fault.CheckFault.{CheckFault}
 use Rattle.asl_check.specs.Missing.{LacksAll, IsBeforeLists}
