@@ -67,7 +67,7 @@ await part('the lists in a lecture: that of the section where the thread is bloc
   check(!missing.length && /refused: List of section 1/.test(await textOf('#own-verdict')), 'what is wrong with a list is in sight: ' + missing);
   await browser.size(1920, 1080);
   await open(link); await settled();
-  await run("(async () => { for (let i = 0; i < 100 && document.getElementById('comparison').hidden; i++) await new Promise(done => setTimeout(done, 100)); })()"); await settled();
+  await run("(async () => { for (let i = 0; i < 100 && (document.getElementById('comparison').hidden || !document.querySelector('.matrix.here tr.mine')); i++) await new Promise(done => setTimeout(done, 100)); })()"); await settled();
   const hidden = await off(['.matrix.here thead', '.matrix.here tr.mine', '#locks tr']);
   check(!hidden.length, 'at 1920 by 1080, below the lock tree, without a key: ' + hidden);
 });
