@@ -210,7 +210,7 @@ pub fn compiled_programs_are_atomic()
 {}
 
 /// Atomicity of journals. Each journal of a compiled program is that of a run; under the same conditions on its steps there is a
-/// serial journal, which leads to the same state and reports the same to each thread, in the second form up to the numbers of objects.
+/// serial journal, which leads to the same state and tells each thread the same, in the second form up to the numbers of objects.
 pub fn journals_of_compiled_programs_are_atomic()
     ensures { (source : List ℕ) (k_limit : ℕ) (image : Image) (count : ℕ) (events : List Event) (end : State)
         → Compiles source k_limit image → LeadsTo image count events end
