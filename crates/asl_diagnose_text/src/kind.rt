@@ -1,4 +1,5 @@
-//! Kinds of tokens.
+//! Kinds of tokens: what a list of expected tokens is made of (`expected.rt`, `listed.rt`), each told by the words of `kind_word`.
+//! tests/diagnosed compares the whole messages.
 
 ghost use Rattle.std.specs.Prelude.{◌≡◌};
 ghost use Rattle.asl_grammar.specs.Bytes.{mark_bytes};

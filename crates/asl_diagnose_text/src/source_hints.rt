@@ -1,4 +1,5 @@
-//! What helps against a refusal of a source, a line each.
+//! What helps against a refusal of a source, a line each: what `diagnose_source` of asl_diagnose puts below the shown line. No clause says
+//! which hint comes; tests/diagnosed compares the whole messages.
 
 use crate::bytes::{push_bytes, push_quoted};
 use crate::expected::stop;

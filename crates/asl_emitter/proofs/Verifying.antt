@@ -23,7 +23,6 @@ use Rattle.asl_lower.specs.LegalLowering.{IsLegalLowering}
 use Rattle.asl_lower.specs.Facts.{HasLayout}
 use Rattle.asl_lower.specs.Limits.{FitsTable}
 use Rattle.asl_lower.specs.Operands.{HasOperands}
-use Rattle.asl_lower.proofs.Layouts.{kept_layout}
 use Rattle.asl_points_to.specs.Classes.{Classed, AreClasses, to}
 use Rattle.asl_points_to.proofs.CountedClasses.{member_below}
 use Rattle.asl_lock_expr.specs.Links.{IsOne}
@@ -39,7 +38,7 @@ use Rattle.asl_emitter.proofs.ClassBounds.{get_front, get_after, get_mapped, len
 
 module _ (l : Lowered) (c : Classed) (stores : ℕ → ℕ → Bool) (k_limit : ℕ) (image : Image) (kept : IsLegalLowering l) (are : AreClasses l c) (few : c.count ≤ 1024) (m : IsInferred l c stores k_limit image) where
   lay : HasLayout l
-  lay = kept_layout l kept
+  lay = kept.layout
 
   code_length : length image.code ≡ length l.code
   code_length = ap (length {A = Instr}) m.code ∙ length_mapped (classed c) l.code
@@ -201,6 +200,6 @@ module _ (l : Lowered) (c : Classed) (stores : ℕ → ℕ → Bool) (k_limit : 
 -- the sites of the code have classes
 pub has_sites : (l : Lowered) (c : Classed) → IsLegalLowering l → AreClasses l c → HasSites l.code c
 has_sites l c kept are pc to cells site at =
-    let lt = (kept_layout l kept).numbered.known_sites pc to cells site at in
+    let lt = kept.layout.numbered.known_sites pc to cells site at in
     let same = are.least.legal.sites in
     omega (arith, lt, same)

@@ -1,4 +1,4 @@
-//! Which lock does in place of another.
+//! Which lock serves in place of another (`SufficesFor` and `Absorbs` of specs/Lists). Cases: tests/cases/asl_emitter/reducing.txt.
 ghost use Rattle.std.specs.Prelude.{◌≡◌, ◌<◌, ◌↔◌, ℕ, true, IsTrue, length, slice_get};
 ghost use Rattle.asl_code.specs.declared.value.Effect.{Effect as AnyEffect};
 ghost use Rattle.asl_lock_expr.specs.ClassOf.{class_of};

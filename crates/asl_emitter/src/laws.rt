@@ -1,4 +1,5 @@
-//! Laws of lists of locks and of inferred images, as functions that do nothing: what each ensures is the law.
+//! Laws of lists of locks and of inferred images, as functions that do nothing: what each ensures is the law. asl_probe_analysis
+//! calls each, so that tests/cases see them there. The promises of `infer` are clauses of the call itself (`inferred.rt`).
 ghost use Rattle.std.specs.Prelude.{◌≡◌, ◌<◌, ◌≤◌, ◌⊎◌, ◌↔◌, ℕ, Bool, List, length};
 ghost use Rattle.asl_code.specs.declared.image.Image.{Image};
 ghost use Rattle.asl_code.specs.Fits.{FitsImage};

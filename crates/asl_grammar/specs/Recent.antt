@@ -1,5 +1,7 @@
 -- Machinery of the proofs, not of the promise: the place of the automaton of docs/SOURCE.md's grammar after the first tokens
 -- of a text, and what is kept of the open blocks there where memory for all of them is refused.
+-- `kinds` is a ring of 1,024: a block that stands in n others has its kind at n modulo 1,024. `lost` is how many of the
+-- outer blocks have no kind there; `to` is how many levels are kept at all (src/in_place.rt).
 use Rattle.std.specs.Prelude.{◌≡◌, ℕ, zero, suc, ◌<◌, ◌≤◌, ◌%◌, ◌⊎◌, List, [], ◌∷◌, Option, Some, None, length, reverse, slice_index_or}
 use Rattle.asl_grammar.specs.declared.control.Control as code
 use Rattle.asl_grammar.specs.declared.control.Kind.{Kind}

@@ -1,7 +1,6 @@
 -- What has been emitted for all functions is the lowering of the program.
 use Rattle.std.proofs.Common.{◌≡◌, ℕ, suc, ◌≤◌, None, codes, List, [], ◌∷◌, ◌++◌, length, sym, ap, ◌∙◌, subst}
 use Rattle.std.specs.List.{All}
-use Rattle.std.proofs.Math.Logic.{∥∥₁_map}
 use Rattle.std.proofs.lemmas.List.Elements.{All-nil, All-cons}
 use Rattle.asl_code.specs.declared.image.Function as entry
 use Rattle.asl_code.specs.declared.instr.Instr.{Instr}
@@ -21,6 +20,7 @@ use Rattle.asl_lower.specs.LegalLowering.{IsLegalLowering, lowered_of}
 use Rattle.asl_lower.proofs.Laid.{lowering_of_is_lowering}
 use Rattle.asl_lower.proofs.Emits.{place_same}
 use Rattle.asl_lower.proofs.Listed.{none_crowded}
+use Rattle.asl_lower.proofs.Layouts.{emitted_layout}
 
 -- nothing has been emitted
 pub record IsEmpty (o : Output) : Type 0 where
@@ -62,7 +62,7 @@ pub emitted_kept : (is : List Item) (l : Lowered) → l ≡ lowering_of is → �
 emitted_kept is l e parsed few size inside =
     let P : List entry.Function → Type 0 = All (λ (f : entry.Function). f.regs ≤ 64) in
     record {
-      program = ∥∥₁_map parsed (λ (p : IsParsed is). (is, p, emitted_lowering is l e));
+      layout = emitted_layout is l parsed (emitted_lowering is l e);
       few_registers = subst P (sym (ap (λ (m : Lowered). m.functions) e)) (few_table 0 (functions_of is) origin few);
       size = size;
       inside = inside;

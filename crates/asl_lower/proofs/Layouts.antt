@@ -1,11 +1,10 @@
--- All facts of a lowering together: of the lowering of a program, and of what a `Lowering` keeps.
+-- All facts of the lowering of a program together.
 use Rattle.std.proofs.Math.Logic.{∥∥₁_elim}
 use Rattle.asl_syntax.specs.Tree.{Item}
 use Rattle.asl_syntax.specs.Parsed.{IsParsed}
 use Rattle.std.proofs.Common.{List}
 use Rattle.asl_lower.specs.Lowered.{Lowered, IsLowering}
 use Rattle.asl_lower.specs.Facts.{HasLayout}
-use Rattle.asl_lower.specs.LegalLowering.{IsLegalLowering}
 use Rattle.asl_lower.proofs.BodyFacts.{lowering_parted, lowering_nested, lowering_returns}
 use Rattle.asl_lower.proofs.SectionFacts.{lowering_sections, lowering_stays, lowering_numbered}
 use Rattle.asl_lower.proofs.Ruled.{lowering_operands}
@@ -25,9 +24,6 @@ lowering_layout is l parsed h =
       limits = lowering_limits is l parsed h;
       main = lowering_main is l parsed h;
     }
-
-pub kept_layout : (l : Lowered) → IsLegalLowering l → HasLayout l
-kept_layout l k = ∥∥₁_elim k.program (HasLayout-prop l) (λ p. lowering_layout p.0 l p.1 p.2)
 
 -- also where the text that spells the program is not at hand
 pub emitted_layout : (is : List Item) (l : Lowered) → ∥ IsParsed is ∥₁ → IsLowering is l → HasLayout l

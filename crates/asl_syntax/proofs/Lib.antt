@@ -16,6 +16,7 @@ pub mod Tallying
 pub mod Few
 -- what breaks the limits
 pub mod EachLimit
+pub mod LimitPlaces
 pub mod LimitCounts
 pub mod LimitNumbers
 pub mod LimitBraces

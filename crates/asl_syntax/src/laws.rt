@@ -1,6 +1,6 @@
 //! Laws of texts and trees, as functions that do nothing: what each ensures is the law.
 
-ghost use Rattle.std.specs.Prelude.{◌≡◌, ℕ, ◌<◌, ◌≤◌, ◌⊎◌, ◌↔◌, None, Some, List, [], ◌∷◌, ◌++◌, drop, IsTrue, Result, IfOk, IfErr, length, map};
+ghost use Rattle.std.specs.Prelude.{◌≡◌, ℕ, ◌<◌, ◌≤◌, ◌⊎◌, ◌↔◌, None, Some, List, [], ◌∷◌, ◌++◌, drop, IsTrue, Result, IfOk, IfErr, length, map, reverse};
 ghost use Rattle.asl_grammar.specs.Token.{Token, Spot};
 ghost use Rattle.asl_grammar.specs.Lex.{are_tokens, tokens_of};
 ghost use Rattle.asl_grammar.specs.Grammar.{bare};
@@ -20,7 +20,8 @@ ghost use Rattle.asl_syntax.specs.Rules.{twice, unknown, wrong_call};
 ghost use Rattle.asl_syntax.specs.DeclaredOnce.{AreDeclaredOnce};
 ghost use Rattle.asl_syntax.specs.Known.{AreKnown, HaveArity};
 ghost use Rattle.asl_syntax.specs.FirstFault.{IsFirstTwice, IsFirstUnknown, IsFirstWrongCall};
-ghost use Rattle.asl_syntax.specs.Limit.{first_limit};
+ghost use Rattle.asl_syntax.specs.Limit.{first_limit, limit_from};
+ghost use Rattle.asl_syntax.specs.LimitPlace.{KeepLimits, IsFirstOver};
 ghost use Rattle.asl_syntax.specs.WithinLimits.{IsWithinLimits};
 ghost use Rattle.asl_syntax.specs.TokenNames.{token_names, mention_name};
 ghost use Rattle.asl_syntax.specs.Writing.{writing};
@@ -61,6 +62,13 @@ pub fn faults_of_names_are_the_first()
 /// short, and each number is in its range.
 pub fn limits_are_of_the_tree()
     ensures { (t : List Item) (text : List ℕ) → Spells t (bare (tokens_of text)) → (first_limit text ≡ None) ↔ ((length text ≤ 1048576) × IsWithinLimits t) }
+{}
+
+/// The place that the limits give is that of one token: those before it keep all limits, and with it they do not. Where there is no such
+/// place, all tokens together keep them.
+pub fn a_limit_is_passed_at_a_token()
+    ensures passed { (ss : List Spot) (at : ℕ) → limit_from [] ss ≡ Some at → IsFirstOver ss at }
+    ensures kept { (ss : List Spot) → limit_from [] ss ≡ None → KeepLimits (reverse (bare ss)) }
 {}
 
 /// A tree is printed as tokens that spell it.

@@ -2,14 +2,13 @@ use Rattle.std.proofs.Common.{◌≡◌, ◌+◌, ◌++◌, ◌∷◌, [], List,
 use Rattle.std.proofs.lemmas.Option.{slice_get-get_or}
 use Rattle.asl_code.specs.declared.lock.Lock.{Lock}
 use Rattle.asl_lower.specs.declared.section.Section.{Section}
-use Rattle.asl_lower.proofs.Layouts.{kept_layout}
 use Rattle.asl_emitter.specs.BuiltImage.{AreFitted}
 use Rattle.asl_emitter.proofs.Making.{fitted_more, list_fitted}
 use Rattle.asl_emitter.proofs.inferred_image.lists.Goals as goal
 
 pub overflow_cast-number : goal.overflow_cast-number
 overflow_cast-number c =
-    let few = (kept_layout c.args.lowering.now c.sections-section-items.ensures.kept).limits.few_sections in
+    let few = c.sections-section-items.ensures.kept.layout.limits.few_sections in
     let same = ap (length {A = Section}) c.sections-section-items.ensures.sections in
     let lt = c.loop-number-test.true in
     omega (arith, few, same, lt)

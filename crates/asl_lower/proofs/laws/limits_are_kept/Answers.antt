@@ -1,5 +1,4 @@
 use Rattle.asl_lower.proofs.Limited.{lowering_limits, lowering_main}
-use Rattle.asl_lower.proofs.Layouts.{kept_layout}
 use Rattle.asl_lower.proofs.laws.limits_are_kept.Goals as goal
 
 pub returns-clause-limits : goal.returns-clause-limits
@@ -9,7 +8,7 @@ pub returns-clause-main : goal.returns-clause-main
 returns-clause-main c = lowering_main
 
 pub returns-clause-kept : goal.returns-clause-kept
-returns-clause-kept c l k = (kept_layout l k).limits
+returns-clause-kept c l k = k.layout.limits
 
 pub returns-clause-kept_main : goal.returns-clause-kept_main
-returns-clause-kept_main c l k = (kept_layout l k).main
+returns-clause-kept_main c l k = k.layout.main

@@ -1,6 +1,5 @@
-use Rattle.asl_lower.proofs.Layouts.{kept_layout}
 use Rattle.asl_lower.proofs.Inside.{open_distinct}
 use Rattle.asl_lower.proofs.laws.open_sections_are_distinct.Goals as goal
 
 pub returns : goal.returns
-returns c l k = open_distinct l (kept_layout l k)
+returns c l k = open_distinct l k.layout

@@ -1,7 +1,6 @@
 use Rattle.std.proofs.Common.{◌+◌, ◌<◌, true, length, get_or, slice_set, refl, ◌∙◌, arith}
 use Rattle.asl_lower.specs.Reach.{Anywhere}
 use Rattle.asl_lower.proofs.Marks.{set_fewer}
-use Rattle.asl_lower.proofs.Layouts.{kept_layout}
 use Rattle.asl_lower.proofs.Reaching.{body_within, done_begin, done_more, all_done}
 use Rattle.asl_map.proofs.Calls.{read_of}
 use Rattle.asl_map.proofs.run_functions.follow_calls.Goals as goal
@@ -14,7 +13,7 @@ mark_callees-requires-clause-within c =
     let l = c.args.lowering.now in
     let low : c.in-Some.function < length l.functions = omega (arith, c.in-Some.ensures.0, c.count_functions-count.ensures.count) in
     let table = read_of l.functions c.functions.result.now c.in-Some.function (record { params = 0; regs = 0; len = 0 }) c.functions.ensures.functions low in
-    omega (arith, body_within l (kept_layout l c.functions.ensures.kept) c.in-Some.function _ table, c.start.ensures, c.from-start.ensures)
+    omega (arith, body_within l c.functions.ensures.kept.layout c.in-Some.function _ table, c.start.ensures, c.from-start.ensures)
 
 pub loop-function-smaller : goal.loop-function-smaller
 loop-function-smaller c =

@@ -1,7 +1,6 @@
 use Rattle.std.proofs.Common.{ℕ, ◌+◌, ◌<◌, Bool, true, List, length, sym, ap, subst, arith}
 use Rattle.std.proofs.lemmas.List.{length-set}
 use Rattle.asl_lower.specs.Reach.{Anywhere, IsSuchCall}
-use Rattle.asl_lower.proofs.Layouts.{kept_layout}
 use Rattle.asl_lower.proofs.Reaching.{AreCallees, callee_there, callees_begin, callees_more, callees_same, callees_end}
 use Rattle.asl_map.proofs.Calls.{stands_at, no_call_at}
 use Rattle.asl_map.proofs.run_functions.mark_callees.Goals as goal
@@ -10,7 +9,7 @@ use Rattle.asl_map.proofs.run_functions.mark_callees.Goals.{in-Some, in_default}
 pub bounds-marks-from : goal.bounds-marks-from
 bounds-marks-from c =
     let l = c.args.lowering.now in
-    let lay = kept_layout l c.code-code.ensures.kept in
+    let lay = c.code-code.ensures.kept.layout in
     let k = c.in-Some.ensures in
     let low : c.loop-pc.pc < length c.code-code.result.now = omega (arith, c.loop-pc-test.true, c.requires.within, ap length c.code-code.ensures.code) in
     let stands = stands_at l.code c.code-code.result.now c.loop-pc.pc _ _ c.code-code.ensures.code low k.1.1 in
@@ -22,7 +21,7 @@ loop-pc-init c = callees_begin c.args.lowering.now Anywhere c.args.from c.args.m
 pub loop-pc-preserved : goal.loop-pc-preserved
 loop-pc-preserved c =
     let l = c.args.lowering.now in
-    let lay = kept_layout l c.code-code.ensures.kept in
+    let lay = c.code-code.ensures.kept.layout in
     let pc : ℕ = c.loop-pc.pc in
     let low : pc < length c.code-code.result.now = omega (arith, c.loop-pc-test.true, c.requires.within, ap length c.code-code.ensures.code) in
     elim c.match-callee.branch [

@@ -6,7 +6,6 @@ use Rattle.asl_lower.specs.Lowered.{Lowered}
 use Rattle.asl_lower.specs.OpenSections.{start_of, returned}
 use Rattle.asl_lower.specs.Facts.{HasLayout}
 use Rattle.asl_lower.specs.LegalLowering.{lowered_of}
-use Rattle.asl_lower.proofs.Layouts.{kept_layout}
 use Rattle.asl_lower.proofs.Reaching.{read_at}
 use Rattle.asl_lower.proofs.Told.{EndsBody, body_ends, returned_each}
 use Rattle.asl_lower.proofs.lowering.Lowering.returned.Goals as goal
@@ -25,29 +24,29 @@ last_is l number start len i e is =
     cc
 
 pub start-requires-clause-layout : goal.start-requires-clause-layout
-start-requires-clause-layout c = kept_layout (lowered_of c.self.inside.draft) c.self.invariant
+start-requires-clause-layout c = c.self.invariant.layout
 
 pub overflow_add-end : goal.overflow_add-end
 overflow_add-end c =
     let l = lowered_of c.self.inside.draft in
-    let e = ends l c.args.self.now (kept_layout l c.self.invariant) c.self.view_is c.args.function c.from-number.result c.start.result c.index.result.now c.from-number.ensures c.requires c.index.ensures c.start.ensures in
+    let e = ends l c.args.self.now c.self.invariant.layout c.self.view_is c.args.function c.from-number.result c.start.result c.index.result.now c.from-number.ensures c.requires c.index.ensures c.start.ensures in
     omega (arith, e.within, c.self.invariant.size)
 
 pub overflow_sub-end : goal.overflow_sub-end
 overflow_sub-end c =
     let l = lowered_of c.self.inside.draft in
-    (ends l c.args.self.now (kept_layout l c.self.invariant) c.self.view_is c.args.function c.from-number.result c.start.result c.index.result.now c.from-number.ensures c.requires c.index.ensures c.start.ensures).some
+    (ends l c.args.self.now c.self.invariant.layout c.self.view_is c.args.function c.from-number.result c.start.result c.index.result.now c.from-number.ensures c.requires c.index.ensures c.start.ensures).some
 
 pub index-requires-2 : goal.index-requires-2
 index-requires-2 c =
     let l = lowered_of c.self.inside.draft in
-    let e = ends l c.args.self.now (kept_layout l c.self.invariant) c.self.view_is c.args.function c.from-number.result c.start.result c.index.result.now c.from-number.ensures c.requires c.index.ensures c.start.ensures in
+    let e = ends l c.args.self.now c.self.invariant.layout c.self.view_is c.args.function c.from-number.result c.start.result c.index.result.now c.from-number.ensures c.requires c.index.ensures c.start.ensures in
     omega (arith, e.some, e.within, c.self.inside.draft.out.code.ok.0)
 
 pub unreachable-requires : goal.unreachable-requires
 unreachable-requires c =
     let l = lowered_of c.self.inside.draft in
-    let e = ends l c.args.self.now (kept_layout l c.self.invariant) c.self.view_is c.args.function c.from-number.result c.start.result c.index.result.now c.from-number.ensures c.requires c.index.ensures c.start.ensures in
+    let e = ends l c.args.self.now c.self.invariant.layout c.self.view_is c.args.function c.from-number.result c.start.result c.index.result.now c.from-number.ensures c.requires c.index.ensures c.start.ensures in
     let is = last_is l c.from-number.result c.start.result c.index.result.now.len c.index-2.result.now e c.index-2.ensures in
     c.in_default.not-Return (returned l c.from-number.result) is
 
@@ -60,7 +59,7 @@ read_is l m function number from i same n e is =
 pub returns-clause-returned : goal.returns-clause-returned
 returns-clause-returned c =
     let l = lowered_of c.self.inside.draft in
-    let e = ends l c.args.self.now (kept_layout l c.self.invariant) c.self.view_is c.args.function c.from-number.result c.start.result c.index.result.now c.from-number.ensures c.requires c.index.ensures c.start.ensures in
+    let e = ends l c.args.self.now c.self.invariant.layout c.self.view_is c.args.function c.from-number.result c.start.result c.index.result.now c.from-number.ensures c.requires c.index.ensures c.start.ensures in
     let is = last_is l c.from-number.result c.start.result c.index.result.now.len c.index-2.result.now e c.index-2.ensures in
     read_is l c.args.self.now c.args.function c.from-number.result c.in-Return.from c.index-2.result.now c.self.view_is c.from-number.ensures c.in-Return.is is
 
@@ -68,7 +67,7 @@ pub returns-clause-each : goal.returns-clause-each
 returns-clause-each c pc from body stands =
     let l = lowered_of c.self.inside.draft in
     let m = c.args.self.now in
-    let e = ends l m (kept_layout l c.self.invariant) c.self.view_is c.args.function c.from-number.result c.start.result c.index.result.now c.from-number.ensures c.requires c.index.ensures c.start.ensures in
+    let e = ends l m c.self.invariant.layout c.self.view_is c.args.function c.from-number.result c.start.result c.index.result.now c.from-number.ensures c.requires c.index.ensures c.start.ensures in
     let is = last_is l c.from-number.result c.start.result c.index.result.now.len c.index-2.result.now e c.index-2.ensures in
     let r = read_is l m c.args.function c.from-number.result c.in-Return.from c.index-2.result.now c.self.view_is c.from-number.ensures c.in-Return.is is in
-    returned_each m (subst HasLayout c.self.view_is (kept_layout l c.self.invariant)) c.args.function pc from body stands ∙ sym r
+    returned_each m (subst HasLayout c.self.view_is c.self.invariant.layout) c.args.function pc from body stands ∙ sym r
