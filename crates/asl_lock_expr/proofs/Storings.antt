@@ -8,7 +8,6 @@ use Rattle.asl_lower.specs.Lowered.{Lowered}
 use Rattle.asl_lower.specs.OpenSections.{InBody, owner_of}
 use Rattle.asl_lower.specs.LegalLowering.{IsLegalLowering}
 use Rattle.asl_lower.proofs.Owner.{owner_is}
-use Rattle.asl_lower.proofs.Layouts.{kept_layout}
 use Rattle.asl_points_to.specs.Classes.{Classed, to}
 use Rattle.asl_lock_expr.specs.ClassOf.{MayStore, Itself, ByCall, TellsStores}
 use Rattle.asl_lock_expr.specs.Stores.{stores}
@@ -87,7 +86,7 @@ called_from g i e = cc
 
 -- a place of the code is in the body of its owner
 in_body : (l : Lowered) (f pc : ℕ) → IsLegalLowering l → pc < length l.code → owner_of l.functions pc ≡ f → InBody l f pc
-in_body l f pc kept lt e = subst (λ n. InBody l n pc) e ((kept_layout l kept).parted.owned pc lt)
+in_body l f pc kept lt e = subst (λ n. InBody l n pc) e (kept.layout.parted.owned pc lt)
 
 body_owner : (l : Lowered) (f pc : ℕ) → InBody l f pc → owner_of l.functions pc ≡ f
 body_owner l f pc b = owner_is l.functions f pc b.function b.in_table b.start b.before_end

@@ -1,61 +1,31 @@
--- Each step keeps fresh objects apart: each line of the table does.
-use Rattle.std.proofs.Common.{◌≡◌, ◌≢◌, ℕ, pos, ◌+◌, ◌-◌, ◌<◌, List, ◌∷◌, Some, None, length, slice_get, refl, ap, sym, ◌∙◌, subst, inl, inr, arith}
+-- Each step keeps fresh objects apart: each kind of line in the table does.
+use Rattle.std.proofs.Common.{◌≡◌, ◌≢◌, ℕ, Some, slice_get, refl, ap, sym, subst, ◌∷◌}
 use Rattle.std.specs.Prelude.{option_and_then}
 use Rattle.std.proofs.lemmas.Option.{slice_get_within}
 use Rattle.asl_code.specs.declared.image.Image.{Image}
 use Rattle.asl_code.specs.declared.value.Value.{Value}
-use Rattle.asl_code.specs.declared.value.Value.TheVariants.{Int, Null, Addr}
-use Rattle.asl_code.specs.declared.value.Cell.{Cell}
 use Rattle.asl_code.specs.declared.instr.Instr.{Instr}
-use Rattle.asl_code.specs.declared.instr.Instr.TheVariants as instr
 use Rattle.asl_lock_forest.specs.declared.node.Node.{Node}
 use Rattle.asl_lock_forest.specs.Holding.{Holding, held, grant, release}
 use Rattle.asl_lock_forest.proofs.Laws.{held_grant_other, held_release_other}
-use Rattle.asl_machine.specs.declared.fault.Fault.TheVariants as fault
 use Rattle.asl_machine.specs.declared.reply.Reply.{Reply}
-use Rattle.asl_machine.specs.declared.reply.Reply.TheVariants as reply
-use Rattle.asl_machine.specs.State.{Frame, Activity, Thread, Running, Done, Failed, State, activity_of}
-use Rattle.asl_machine.specs.Calls.{function_of, with_register}
+use Rattle.asl_machine.specs.State.{Activity, Running, Done, State, activity_of}
+use Rattle.asl_machine.specs.Calls.{with_register}
 use Rattle.asl_machine.specs.WellFormed.{SatisfiesInvariant}
 use Rattle.asl_machine.specs.Fresh.{IsFreshFor, AllElsewhere, AreApart}
-use Rattle.asl_machine.specs.Step.{At, Line, StepOf, Step, after, advanced, going_on, called, returned, left_last}
-use Rattle.asl_machine.proofs.Elsewhere.{set_elsewhere, called_elsewhere}
-use Rattle.asl_machine.proofs.ApartTurns.{IsTurn, ThreadElsewhere, elsewhere, runs_on, left_none, sets, goes, fails, own_value, loaded_value}
+use Rattle.asl_machine.specs.Step.{Step, after, advanced, advanced_with, going_on, called, returned, left_last}
+use Rattle.asl_machine.proofs.ValueLines.{at_of}
+use Rattle.asl_machine.proofs.LineKinds.{Kind, Setting, Going, Storing, Making, Calling, Returning, Ending, Entering, Waiting, Leaving, Failing, StepKind, Over, Does, step_kind}
+use Rattle.asl_machine.proofs.Unknown.{setting_elsewhere, calling_elsewhere, returning_elsewhere}
+use Rattle.asl_machine.proofs.ApartTurns.{IsTurn, ThreadElsewhere, elsewhere, unknown, runs_on, left_none, goes, fails}
 use Rattle.asl_machine.proofs.ApartHeaps.{stores, makes}
 
 module _ {image : Image} {s : State} {t : ℕ} {a : Activity} (turn : IsTurn image s t a) where
-  at_here : At
-  at_here = record { image = image; state = s; thread = t; activity = a }
+  -- it runs on over the same objects, with its fresh objects
+  on : (b : Activity) (new : State) → b.fresh ≡ a.fresh → (b.depth ≡ 0 → a.depth ≡ 0) → ((u o : ℕ) → u ≢ t → IsFreshFor s u o → AllElsewhere o (b.top ∷ b.below)) → new ≡ after s t (Running b) s.objects s.holding → AreApart image new
+  on b new same shallow away e = subst (AreApart image) (sym e) (runs_on turn b same shallow away)
 
-  -- the values that registers are set to are no addresses in fresh objects of others
-  global_value : (g : ℕ) → g < length image.globals → (u o i : ℕ) → u ≢ t → IsFreshFor s u o → Addr g 0 ≢ Addr o i
-  global_value g lt u o i apart f e = let le = (turn.apart.there u o f).0 in let same : g ≡ o = cc in omega (arith, lt, le, same)
-
-  moved_value : (r d : ℕ) (cell : Cell) → slice_get a.top.regs r ≡ Some (Addr cell.object cell.offset) → (u o i : ℕ) → u ≢ t → IsFreshFor s u o → Addr cell.object d ≢ Addr o i
-  moved_value r d cell reads u o i apart f e =
-      let same : cell.object ≡ o = cc in
-      (elsewhere turn u o apart f).0 r cell.offset (reads ∙ ap (λ (x : ℕ). Some (Addr x cell.offset)) same)
-
-  number : (n : Value) → ((o i : ℕ) → n ≢ Addr o i) → (u o i : ℕ) → u ≢ t → IsFreshFor s u o → n ≢ Addr o i
-  number n other u o i apart f e = other o i e
-
-  -- the lines of calls, returns and sections
-  calls : (to first g : ℕ) (new : State) → new ≡ after s t (Running (called image a to first g)) s.objects s.holding → AreApart image new
-  calls to first g new e =
-      subst (AreApart image) (sym e)
-      (runs_on turn (called image a to first g) refl (λ z. z)
-      (λ u o apart f. let p = elsewhere turn u o apart f in (called_elsewhere o a.top.regs first (function_of image g).params (function_of image g).regs p.0, p)))
-
-  returns : (from to : ℕ) (caller : Frame) (others : List Frame) (v : Value) (new : State) → a.below ≡ caller ∷ others → slice_get a.top.regs from ≡ Some v →
-      new ≡ after s t (Running (returned a (with_register to v caller) others)) s.objects s.holding → AreApart image new
-  returns from to caller others v new waiting reads e =
-      subst (AreApart image) (sym e)
-      (runs_on turn (returned a (with_register to v caller) others) refl (λ z. z)
-      (λ u o apart f.
-      let p = elsewhere turn u o apart f in
-      let q : AllElsewhere o (caller ∷ others) = subst (AllElsewhere o) waiting p.1 in
-      (set_elsewhere o caller.regs to v q.0 (λ i. own_value turn from v reads u o i apart f), q.1)))
-
+  -- its last frame ends, and it enters and leaves the section: it has no fresh object
   ends : (v : Value) (new : State) → new ≡ after s t (Done v) s.objects s.holding → AreApart image new
   unfolding ThreadElsewhere
   ends v new e = subst (AreApart image) (sym e) (left_none turn (Done v) s.holding refl (λ u node apart. refl) (λ u o apart g b k. cc))
@@ -74,65 +44,30 @@ module _ {image : Image} {s : State} {t : ℕ} {a : Activity} (turn : IsTurn ima
       (left_none turn (Running (left_last a)) (release s.holding t) refl (λ u node apart. held_release_other s.holding t u node apart)
       (λ u o apart f b k. let x : left_last a ≡ b = cc in subst (λ (d : Activity). AllElsewhere o (d.top ∷ d.below)) x (elsewhere turn u o apart f)))
 
-  -- each line of the table
-  pub line_apart : (i : Instr) (r : Reply) (new : State) → slice_get image.code a.top.pc ≡ Some i → Line (record { image = image; state = s; thread = t; activity = a }) i r new → AreApart image new
-  line_apart (instr.SetInt x n) reply.Ran new here e = sets turn x (Int n) new (number (Int n) (λ o i f. cc)) e
-  line_apart (instr.SetNull x) reply.Ran new here e = sets turn x Null new (number Null (λ o i f. cc)) e
-  line_apart (instr.Move x y) reply.Ran new here e = sets turn x e.value new (own_value turn y e.value e.reads_value) e.sets
-  line_apart (instr.Add x y z) reply.Ran new here e = sets turn x (Int _) new (number (Int _) (λ o i f. cc)) e.sets
-  line_apart (instr.Add x y z) (reply.Fault fault.BadType) new here e = fails turn fault.BadType new e.fails
-  line_apart (instr.Subtract x y z) reply.Ran new here e = sets turn x (Int _) new (number (Int _) (λ o i f. cc)) e.sets
-  line_apart (instr.Subtract x y z) (reply.Fault fault.BadType) new here e = fails turn fault.BadType new e.fails
-  line_apart (instr.LessThan x y z) reply.Ran new here (inl e) = sets turn x (Int (pos 1)) new (number (Int (pos 1)) (λ o i f. cc)) e.sets
-  line_apart (instr.LessThan x y z) reply.Ran new here (inr e) = sets turn x (Int (pos 0)) new (number (Int (pos 0)) (λ o i f. cc)) e.sets
-  line_apart (instr.LessThan x y z) (reply.Fault fault.BadType) new here e = fails turn fault.BadType new e.fails
-  line_apart (instr.Equals x y z) reply.Ran new here (inl e) = sets turn x (Int (pos 1)) new (number (Int (pos 1)) (λ o i f. cc)) e.sets
-  line_apart (instr.Equals x y z) reply.Ran new here (inr e) = sets turn x (Int (pos 0)) new (number (Int (pos 0)) (λ o i f. cc)) e.sets
-  line_apart (instr.GlobalAddress x g) reply.Ran new here e =
-      sets turn x (Addr g 0) new (global_value g (turn.sound.fits.instr_fits a.top.function a.top.pc (turn.sound.formed.placed t a turn.is).function (instr.GlobalAddress x g) (turn.sound.formed.placed t a turn.is).lies here).1.0) e
-  line_apart (instr.FieldAddress x y n) reply.Ran new here e = sets turn x (Addr e.cell.object (e.cell.offset + n)) new (moved_value y (e.cell.offset + n) e.cell e.reads_address) e.sets
-  line_apart (instr.FieldAddress x y n) (reply.Fault fault.Null) new here e = fails turn fault.Null new e.1
-  line_apart (instr.FieldAddress x y n) (reply.Fault fault.BadType) new here e = fails turn fault.BadType new e.2
-  line_apart (instr.FieldAddress x y n) (reply.Fault fault.Bounds) new here e = fails turn fault.Bounds new e.fails
-  line_apart (instr.Load x y) reply.Ran new here e = sets turn x e.value new (loaded_value turn y e.cell e.value e.reads_address e.allowed e.there) e.sets
-  line_apart (instr.Load x y) (reply.Fault fault.Null) new here e = fails turn fault.Null new e.1
-  line_apart (instr.Load x y) (reply.Fault fault.BadType) new here e = fails turn fault.BadType new e.2
-  line_apart (instr.Load x y) (reply.Fault (fault.Unprotected cell effect)) new here e = fails turn (fault.Unprotected cell effect) new e.fails
-  line_apart (instr.Store x y) reply.Ran new here e = stores turn x y e.cell e.value new e.reads_address e.reads_value e.allowed e.goes_on
-  line_apart (instr.Store x y) (reply.Fault fault.Null) new here e = fails turn fault.Null new e.1
-  line_apart (instr.Store x y) (reply.Fault fault.BadType) new here e = fails turn fault.BadType new e.2
-  line_apart (instr.Store x y) (reply.Fault (fault.Unprotected cell effect)) new here e = fails turn (fault.Unprotected cell effect) new e.fails
-  line_apart (instr.New x n class) reply.Ran new here e = makes turn x n class new e.makes
-  line_apart (instr.New x n class) (reply.Fault fault.Full) new here e = fails turn fault.Full new e.1
-  line_apart (instr.Jump target) reply.Ran new here e = goes turn a.depth target new (λ z. z) e
-  line_apart (instr.JumpIfZero x target) reply.Ran new here (inl e) = goes turn a.depth target new (λ z. z) e.goes_to
-  line_apart (instr.JumpIfZero x target) reply.Ran new here (inr e) = goes turn a.depth (a.top.pc + 1) new (λ z. z) e.goes_on
-  line_apart (instr.Call x first g) reply.Ran new here e = calls x first g new e.calls
-  line_apart (instr.Call x first g) (reply.Fault fault.Stack) new here e = fails turn fault.Stack new e.1
-  line_apart (instr.Return from) reply.Ran new here (inl e) = returns from e.to e.caller e.others e.value new e.waiting e.reads_value e.returns
-  line_apart (instr.Return from) reply.Ran new here (inr e) = ends e.value new e.ends
-  line_apart (instr.Return from) (reply.Fault fault.Open) new here e = fails turn fault.Open new e.fails
-  line_apart (instr.Output from) (reply.Out value) new here e = goes turn a.depth (a.top.pc + 1) new (λ z. z) e.goes_on
-  line_apart (instr.Acquire list) reply.Ran new here (inl e) = goes turn (a.depth + 1) (a.top.pc + 1) new (λ z. absurd (omega (arith, z))) e.goes_on
-  line_apart (instr.Acquire list) reply.Ran new here (inr e) = enters (grant s.holding t e.request) new e.asks.outside (λ u node apart. held_grant_other s.holding t e.request u node apart) e.goes_on
-  line_apart (instr.Acquire list) reply.Blocked new here e = subst (AreApart image) (sym e.same) turn.apart
-  line_apart (instr.Acquire list) (reply.Fault fault.Deep) new here e = fails turn fault.Deep new e.1
-  line_apart instr.Release reply.Ran new here (inl e) = goes turn (a.depth - 1) (a.top.pc + 1) new (λ z. absurd (let inner = e.inner in omega (arith, z, inner))) e.goes_on
-  line_apart instr.Release reply.Ran new here (inr e) = leaves new e.leaves
-  line_apart instr.Release (reply.Fault fault.NoSection) new here e = fails turn fault.NoSection new e.1
-  line_apart i r new here e = absurd e
+  -- each kind of line
+  kind_apart : (i : Instr) (r : Reply) (new : State) → slice_get image.code a.top.pc ≡ Some i → Kind (at_of image s t a) i r new → AreApart image new
+  kind_apart i r new here (Setting to v comes e) =
+      on (going_on a a.depth (advanced_with to v a.top)) new refl (λ z. z) (λ u o apart f. setting_elsewhere turn.sound turn.is (unknown turn u o apart f) i to v here comes) e
+  kind_apart i r new here (Going depth target deep e) = goes turn depth target new deep e
+  kind_apart i r new here (Storing address from same ran e) = stores turn address from e.cell e.value new e.reads_address e.reads_value e.allowed e.goes_on
+  kind_apart i r new here (Making to cells class same ran e) = makes turn to cells class new e.makes
+  kind_apart i r new here (Calling to first g e) =
+      on (called image a to first g) new refl (λ z. z) (λ u o apart f. calling_elsewhere turn.sound turn.is (unknown turn u o apart f) to first g) e.calls
+  kind_apart i r new here (Returning from e) =
+      on (returned a (with_register e.to e.value e.caller) e.others) new refl (λ z. z)
+      (λ u o apart f. returning_elsewhere turn.sound turn.is (unknown turn u o apart f) from e.to e.caller e.others e.value e.waiting e.reads_value) e.returns
+  kind_apart i r new here (Ending from e) = ends e.value new e.ends
+  kind_apart i r new here (Entering list same ran e) = enters (grant s.holding t e.request) new e.asks.outside (λ u node apart. held_grant_other s.holding t e.request u node apart) e.goes_on
+  kind_apart i r new here (Waiting list e) = subst (AreApart image) (sym e.same) turn.apart
+  kind_apart i r new here (Leaving same ran e) = leaves new e.leaves
+  kind_apart i r new here (Failing f same e) = fails turn f new e
 
 -- each step of a verified program keeps fresh objects apart
 pub step_apart : (image : Image) (s : State) (t : ℕ) (r : Reply) (new : State) → SatisfiesInvariant image s → AreApart image s → Step image s t r new → AreApart image new
-step_apart image s t r new sound fr step =
-    elim (slice_get s.threads t) as (λ o. slice_get s.threads t ≡ o → StepOf image s t o r new → AreApart image new) [
-      | None ↦ λ is h. absurd h
-      | Some thread ↦ λ is h. by_thread thread is h
-    ] refl step
+step_apart image s t r new sound fr step = by_kind (step_kind image s t r new step)
   where
-    by_thread : (thread : Thread) → slice_get s.threads t ≡ Some thread → StepOf image s t (Some thread) r new → AreApart image new
-    by_thread (Running a) is h =
+    by_kind : StepKind image s t r new → AreApart image new
+    by_kind (Over e) = subst (AreApart image) (sym e) fr
+    by_kind (Does a i is here kind) =
         let turn : IsTurn image s t a = record { sound = sound; apart = fr; there = slice_get_within s.threads t (Running a) is; is = ap (option_and_then activity_of) is } in
-        line_apart turn h.0 r new h.1 h.2
-    by_thread (Done v) is h = subst (AreApart image) (sym h.1) fr
-    by_thread (Failed f) is h = subst (AreApart image) (sym h.1) fr
+        kind_apart turn i r new here kind

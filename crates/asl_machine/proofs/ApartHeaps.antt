@@ -1,26 +1,26 @@
 -- Fresh objects stay apart after a `store`, and after a `new`, whose object is fresh for its thread alone.
-use Rattle.std.proofs.Common.{◌≡◌, ◌≢◌, ℕ, suc, pos, ◌⊎◌, ◌||◌, ◌++◌, true, false, [], ◌∷◌, Some, None, length, set, slice_get, refl, ap, ap₂, sym, ◌∙◌, subst, inl, inr, arith}
-use Rattle.std.specs.Prelude.{option_and_then, IsTrue}
+use Rattle.std.proofs.Common.{◌≡◌, ◌≢◌, ℕ, suc, ◌⊎◌, ◌||◌, ◌++◌, true, false, [], ◌∷◌, Some, length, set, slice_get, refl, ap, ap₂, sym, ◌∙◌, subst, inl, inr, arith}
+use Rattle.std.specs.Prelude.{IsTrue}
 use Rattle.std.proofs.lemmas.Bool.Decides.{eqb_tells}
 use Rattle.std.proofs.lemmas.Option.{same_Some}
 use Rattle.std.proofs.lemmas.List.{length_push}
 use Rattle.asl_code.specs.declared.image.Image.{Image}
 use Rattle.asl_code.specs.declared.value.Value.{Value}
-use Rattle.asl_code.specs.declared.value.Value.TheVariants.{Int, Addr}
+use Rattle.asl_code.specs.declared.value.Value.TheVariants.{Addr}
 use Rattle.asl_code.specs.declared.value.Cell.{Cell}
 use Rattle.asl_code.specs.declared.value.Effect.TheVariants.{Write}
 use Rattle.asl_code.specs.Versions.{has_fresh}
 use Rattle.asl_lock_forest.specs.Holding.{Covers, is_covered}
 use Rattle.asl_machine.specs.Cover.{is_fresh}
-use Rattle.asl_machine.specs.State.{Object, Activity, Running, State, cell_at, class_of, written, new_object, activity_at}
+use Rattle.asl_machine.specs.State.{Object, Activity, Running, State, class_of, written, new_object, activity_at}
 use Rattle.asl_machine.specs.Fresh.{fresh_at, IsFreshFor, AllElsewhere, MayHold, AreApart}
 use Rattle.asl_machine.specs.Step.{after, advanced, going_on, having_made, is_allowed}
-use Rattle.asl_machine.proofs.Lists.{one_more, replicated}
-use Rattle.asl_machine.proofs.Heaps.{class_of-written, stored_or_old, object_there, class_there}
+use Rattle.asl_machine.proofs.Heaps.{class_of-written, stored_or_old, object_there, class_there, old_address}
 use Rattle.asl_machine.proofs.WellFormedHeaps.{length-written, points_within, read_before, many_globals}
 use Rattle.asl_machine.proofs.Freshness.{made_either, made_keeps, made_outside, allowed_covers}
-use Rattle.asl_machine.proofs.Elsewhere.{set_elsewhere, none_points, none_below}
-use Rattle.asl_machine.proofs.ApartTurns.{IsTurn, other_at, own_at, was, now_other, now_own, own_old, old_own, elsewhere, runs_on, own_value}
+use Rattle.asl_machine.proofs.Elsewhere.{none_points, none_below}
+use Rattle.asl_machine.proofs.Unknown.{making_elsewhere}
+use Rattle.asl_machine.proofs.ApartTurns.{IsTurn, other_at, own_at, was, now_other, now_own, own_old, old_own, elsewhere, unknown, runs_on}
 
 module _ {image : Image} {s : State} {t : ℕ} {a : Activity} (turn : IsTurn image s t a) where
   -- what is stored in a fresh object may be an address in another fresh one of the thread, and no other may
@@ -62,7 +62,7 @@ module _ {image : Image} {s : State} {t : ℕ} {a : Activity} (turn : IsTurn ima
                             ap₂ (λ w q. is_covered s.holding w q x Write) own.1 both.0 ∙ subst (λ z. Covers s.holding t cell z Write) one g),
                       )
                     ] refl mine
-                | inr other ↦ absurd (own_value turn from v reads_v u o i other.1 (old u o f) (sym both.1))
+                | inr other ↦ absurd ((elsewhere turn u o other.1 (old u o f)).0 from i (reads_v ∙ ap (λ z. Some z) (sym both.1)))
               ]
               | inr before ↦ recast (base.cells u o i k f before)
             ];
@@ -114,9 +114,7 @@ module _ {image : Image} {s : State} {t : ℕ} {a : Activity} (turn : IsTurn ima
               let k : b ≡ d = same_Some _ _ (sym (own_at turn (Running b)) ∙ ap (activity_at (set s.threads t (Running b))) (sym same.1) ∙ at) in
               let away : w ≢ t = λ x. ne (same.1 ∙ sym x) in
               elim (old w o f) [
-                | inl g ↦
-                    subst (λ (x : Activity). AllElsewhere o (x.top ∷ x.below)) k
-                    (let p = elsewhere turn w o away g in (set_elsewhere o a.top.regs r (Addr size 0) p.0 (λ i q. within w o g (let h : Addr size 0 ≡ Addr o i = q in cc)), p.1))
+                | inl g ↦ subst (λ (x : Activity). AllElsewhere o (x.top ∷ x.below)) k (making_elsewhere turn.sound turn.is (unknown turn w o away g) r)
                 | inr g ↦ absurd (away g.0)
               ]
           | inr other ↦
@@ -126,36 +124,24 @@ module _ {image : Image} {s : State} {t : ℕ} {a : Activity} (turn : IsTurn ima
                 | inr g ↦ subst (λ x. AllElsewhere x (d.top ∷ d.below)) (sym g.1) (elsewhere_new u d before)
               ]
         ];
-        cells = λ u o i k f at. elim (in_old k o i at) [
-          | inl before ↦
-              elim (old u o f) [
-                | inl g ↦
-                    elim (turn.apart.cells u o i k g before) [
-                      | inl in_fresh ↦ inl (now u k.object in_fresh)
-                      | inr covered ↦ inr (
-                        λ w h. elim (old w k.object h) [
-                          | inl q ↦ covered.0 w q
-                          | inr q ↦ (let lt = object_there s.objects k (Addr o i) before in let same = q.1 in omega (arith, lt, same))
-                        ],
-                        λ x of.
-                            (let y = class_there s.objects k (Addr o i) before in
-                            let kept = read_before (λ (q : Object). q.class) s.objects (new_object class n ∷ []) k.object y.0 y.1 in
-                            let one : y.0 ≡ x = same_Some _ _ (sym kept ∙ of) in
-                            covered.1 x (y.1 ∙ ap (λ z. Some z) one)),
-                      )
-                    ]
-                | inr g ↦ absurd (let lt = points_within s.objects o i (turn.sound.formed.objects.points k (Addr o i) before) in let same = g.1 in omega (arith, lt, same))
-              ]
-          | inr zero_is ↦ absurd zero_is
-        ];
+        cells = λ u o i k f at.
+            let before = old_address s.objects n class k o i at in
+            elim (old u o f) [
+              | inl g ↦
+                  elim (turn.apart.cells u o i k g before) [
+                    | inl in_fresh ↦ inl (now u k.object in_fresh)
+                    | inr covered ↦ inr (
+                      λ w h. elim (old w k.object h) [
+                        | inl q ↦ covered.0 w q
+                        | inr q ↦ (let lt = object_there s.objects k (Addr o i) before in let same = q.1 in omega (arith, lt, same))
+                      ],
+                      λ x of.
+                          (let y = class_there s.objects k (Addr o i) before in
+                          let kept = read_before (λ (q : Object). q.class) s.objects (new_object class n ∷ []) k.object y.0 y.1 in
+                          let one : y.0 ≡ x = same_Some _ _ (sym kept ∙ of) in
+                          covered.1 x (y.1 ∙ ap (λ z. Some z) one)),
+                    )
+                  ]
+              | inr g ↦ absurd (let lt = points_within s.objects o i (turn.sound.formed.objects.points k (Addr o i) before) in let same = g.1 in omega (arith, lt, same))
+            ];
       })
-    where
-      in_old : (k : Cell) (o i : ℕ) → cell_at (s.objects ++ new_object class n ∷ []) k ≡ Some (Addr o i) → (cell_at s.objects k ≡ Some (Addr o i)) ⊎ ⊥
-      in_old k o i at =
-          elim (slice_get (s.objects ++ new_object class n ∷ []) k.object) as (λ x. slice_get (s.objects ++ new_object class n ∷ []) k.object ≡ x → option_and_then (λ (p : Object). slice_get p.cells k.offset) x ≡ Some (Addr o i) → (cell_at s.objects k ≡ Some (Addr o i)) ⊎ ⊥) [
-            | None ↦ λ is f. cc
-            | Some p ↦ λ is f. elim (one_more s.objects (new_object class n) p k.object is) [
-              | inl before ↦ inl (ap (option_and_then (λ (q : Object). slice_get q.cells k.offset)) before ∙ f)
-              | inr made ↦ inr (let z : Addr o i ≡ Int (pos 0) = replicated n k.offset (Int (pos 0)) (Addr o i) (ap (λ (q : Object). slice_get q.cells k.offset) (sym made) ∙ f) in cc)
-            ]
-          ] refl at

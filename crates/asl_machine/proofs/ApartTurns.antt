@@ -1,27 +1,27 @@
--- The turn of a thread in a state whose fresh objects are apart: they stay so where it leaves the objects as they are, whether it
--- goes on, sets a register, fails or ends.
-use Rattle.std.proofs.Common.{◌≡◌, ◌≢◌, ℕ, ◌<◌, ◌⊎◌, true, List, [], ◌∷◌, Some, length, set, slice_get, refl, ap, sym, ◌∙◌, subst, inl, inr}
-use Rattle.std.specs.Prelude.{option_and_then, IsTrue}
+-- The turn of a thread in a state whose fresh objects are apart: it knows nothing of those of others, and they stay apart where it leaves
+-- the objects as they are, whether it goes on, fails or ends.
+use Rattle.std.proofs.Common.{◌≡◌, ◌≢◌, ℕ, ◌<◌, ◌⊎◌, [], ◌∷◌, length, set, refl, ap, sym, ◌∙◌, subst, inl, inr, arith}
+use Rattle.std.specs.Prelude.{Some, option_and_then, IsTrue}
 use Rattle.std.specs.Option.{option_map_or}
+use Rattle.std.proofs.lemmas.Bool.{cases_lt}
 use Rattle.std.proofs.lemmas.Bool.Decides.{eqb_tells}
 use Rattle.asl_code.specs.declared.image.Image.{Image}
-use Rattle.asl_code.specs.declared.value.Value.{Value}
 use Rattle.asl_code.specs.declared.value.Value.TheVariants.{Addr}
-use Rattle.asl_code.specs.declared.value.Cell.{Cell}
 use Rattle.asl_code.specs.declared.value.Effect.TheVariants.{Read, Write}
 use Rattle.asl_lock_forest.specs.declared.node.Node.{Node}
 use Rattle.asl_lock_forest.specs.Holding.{Holding, held, release}
 use Rattle.asl_lock_forest.proofs.Laws.{held_release_other}
 use Rattle.asl_machine.specs.declared.fault.Fault.{Fault}
 use Rattle.asl_machine.specs.Cover.{is_fresh}
-use Rattle.asl_machine.specs.State.{Frame, Activity, Thread, Running, Failed, State, cell_at, activity_of, activity_at}
+use Rattle.asl_machine.specs.State.{Activity, Thread, Running, Failed, State, activity_of, activity_at}
 use Rattle.asl_machine.specs.WellFormed.{SatisfiesInvariant}
-use Rattle.asl_machine.specs.Fresh.{fresh_of, fresh_at, IsFreshFor, PointElsewhere, AllElsewhere, AreApart}
-use Rattle.asl_machine.specs.Step.{Sets, Fails, after, advanced_with, placed_at, going_on, is_allowed}
+use Rattle.asl_machine.specs.Fresh.{fresh_of, fresh_at, IsFreshFor, AllElsewhere, AreApart}
+use Rattle.asl_machine.specs.Step.{Fails, after, placed_at, going_on}
 use Rattle.asl_machine.proofs.Lists.{get_same, get_other}
 use Rattle.asl_machine.proofs.Heaps.{class_there}
 use Rattle.asl_machine.proofs.Freshness.{no_fresh, covers_held, allowed_covers}
-use Rattle.asl_machine.proofs.Elsewhere.{set_elsewhere, read_elsewhere}
+use Rattle.asl_machine.proofs.Elsewhere.{read_elsewhere}
+use Rattle.asl_machine.proofs.Unknown.{IsUnknown}
 
 -- a running thread, in a state that satisfies the invariant and whose fresh objects are apart
 pub record IsTurn (image : Image) (s : State) (t : ℕ) (a : Activity) : Type 0 where
@@ -67,6 +67,17 @@ module _ {image : Image} {s : State} {t : ℕ} {a : Activity} (turn : IsTurn ima
   -- the thread's own registers point to no object that is fresh for another
   pub elsewhere : (u o : ℕ) → u ≢ t → IsFreshFor s u o → AllElsewhere o (a.top ∷ a.below)
   elsewhere u o apart f = turn.apart.registers t u o a (λ e. apart (sym e)) f turn.is
+
+  -- it knows nothing of what is fresh for another
+  pub unknown : (u o : ℕ) → u ≢ t → IsFreshFor s u o → IsUnknown image s t a o
+  unknown u o apart f = record {
+    no_global = (turn.apart.there u o f).0;
+    there = (turn.apart.there u o f).1;
+    registers = elsewhere u o apart f;
+    cells = λ address offset cell reads allowed at.
+        let x = class_there s.objects cell (Addr o offset) at in
+        read_elsewhere image s turn.sound turn.apart t u a (λ e. apart (sym e)) turn.is cell x.0 x.1 (allowed_covers image s t a Read cell x.0 allowed x.1) (λ g. (elsewhere u cell.object apart g).0 address cell.offset reads) o offset at f;
+  }
 
   -- a step that leaves the objects
   record Keeps (thread : Thread) (holding : Holding) : Type 0 where
@@ -118,9 +129,6 @@ module _ {image : Image} {s : State} {t : ℕ} {a : Activity} (turn : IsTurn ima
 
   -- ---- the thread's own steps over the same objects
 
-  no_more : (o : ℕ) (fs : List Frame) (f : Frame) → AllElsewhere o (f ∷ fs) → PointElsewhere o f.regs
-  no_more o fs f p = p.0
-
   -- it runs on, with its fresh objects
   pub runs_on : (b : Activity) → b.fresh ≡ a.fresh → (b.depth ≡ 0 → a.depth ≡ 0) → ((u o : ℕ) → u ≢ t → IsFreshFor s u o → AllElsewhere o (b.top ∷ b.below)) → AreApart image (after s t (Running b) s.objects s.holding)
   unfolding ThreadElsewhere
@@ -147,31 +155,16 @@ module _ {image : Image} {s : State} {t : ℕ} {a : Activity} (turn : IsTurn ima
         own = λ o f. absurd (no_fresh (fresh_of thread) o none f);
       })
 
-  -- a register is set to a value that is no address in an object that is fresh for another
-  pub sets : (r : ℕ) (v : Value) (new : State) → ((u o i : ℕ) → u ≢ t → IsFreshFor s u o → v ≢ Addr o i) → Sets (record { image = image; state = s; thread = t; activity = a }) r v new → AreApart image new
-  sets r v new away e =
-      subst (AreApart image) (sym e)
-      (runs_on (going_on a a.depth (advanced_with r v a.top)) refl (λ z. z)
-      (λ u o apart f. let p = elsewhere u o apart f in (set_elsewhere o a.top.regs r v p.0 (λ i. away u o i apart f), p.1)))
-
   -- it goes on elsewhere, in some section or outside
-  pub goes : (depth target : ℕ) (new : State) → (depth ≡ 0 → a.depth ≡ 0) → new ≡ after s t (Running (going_on a depth (placed_at target a.top))) s.objects s.holding → AreApart image new
-  goes depth target new shallow e =
-      subst (AreApart image) (sym e) (runs_on (going_on a depth (placed_at target a.top)) refl shallow (λ u o apart f. elsewhere u o apart f))
+  pub goes : (depth target : ℕ) (new : State) → (0 < a.depth → 0 < depth) → new ≡ after s t (Running (going_on a depth (placed_at target a.top))) s.objects s.holding → AreApart image new
+  goes depth target new deep e =
+      subst (AreApart image) (sym e) (runs_on (going_on a depth (placed_at target a.top)) refl (shallow depth deep) (λ u o apart f. elsewhere u o apart f))
+    where
+      shallow : (depth : ℕ) → (0 < a.depth → 0 < depth) → depth ≡ 0 → a.depth ≡ 0
+      shallow depth deep z = elim (cases_lt 0 a.depth) [ inl inside ↦ absurd (let lt = deep inside in omega (arith, lt, z)) | inr low ↦ omega (arith, low) ]
 
   -- it fails, and has no fresh object any more
   pub fails : (f : Fault) (new : State) → Fails (record { image = image; state = s; thread = t; activity = a }) f new → AreApart image new
   unfolding ThreadElsewhere
   fails f new e =
       subst (AreApart image) (sym e) (left_none (Failed f) (release s.holding t) refl (λ u node apart. held_release_other s.holding t u node apart) (λ u o apart g b k. cc))
-
-  -- a value that a register holds
-  pub own_value : (r : ℕ) (v : Value) → slice_get a.top.regs r ≡ Some v → (u o i : ℕ) → u ≢ t → IsFreshFor s u o → v ≢ Addr o i
-  own_value r v reads u o i apart f k = (elsewhere u o apart f).0 r i (reads ∙ ap (λ x. Some x) k)
-
-  -- a value that a cell holds that the thread may read
-  pub loaded_value : (r : ℕ) (cell : Cell) (v : Value) → slice_get a.top.regs r ≡ Some (Addr cell.object cell.offset) → is_allowed (record { image = image; state = s; thread = t; activity = a }) Read cell ≡ true → cell_at s.objects cell ≡ Some v →
-      (u o i : ℕ) → u ≢ t → IsFreshFor s u o → v ≢ Addr o i
-  loaded_value r cell v reads allowed holds u o i apart f k =
-      let x = class_there s.objects cell v holds in
-      read_elsewhere image s turn.sound turn.apart t u a (λ e. apart (sym e)) turn.is cell x.0 x.1 (allowed_covers image s t a Read cell x.0 allowed x.1) (λ g. (elsewhere u cell.object apart g).0 r cell.offset reads) o i (holds ∙ ap (λ y. Some y) k) f

@@ -25,7 +25,7 @@ return_line at from v [] last awaited p =
     elim (at.activity.depth == 0) as (λ b. (at.activity.depth == 0) ≡ b →
     IsLine at (instr.Return from) (left_alone (here_place at.state at.thread at.activity) (cond b (fate.Ends v) (fate.Fails fault.Open)))) [
       | true ↦ λ e. inr (record { value = v; last = last; outside = eqb-true _ _ e; reads_value = p; ends = refl })
-      | false ↦ λ e. record { last = last; inside = not_zero _ e; fails = refl }
+      | false ↦ λ e. (last, not_zero _ e, refl)
     ] refl
 return_line at from v (f ∷ fs) waiting awaited p =
     elim at.activity.top.result as (λ r. at.activity.top.result ≡ r → IsSomeAnd r (λ register. register < length f.regs) →

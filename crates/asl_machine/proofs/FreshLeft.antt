@@ -17,75 +17,35 @@ use Rattle.asl_machine.specs.Cover.{is_fresh}
 use Rattle.asl_machine.specs.State.{Object, Activity, Thread, Running, Done, Failed, State, activity_of, activity_at, depth_at}
 use Rattle.asl_machine.specs.Fresh.{fresh_of, fresh_at, IsFreshFor}
 use Rattle.asl_machine.specs.MadeBy.{MakesInside}
-use Rattle.asl_machine.specs.Step.{At, Line, Fails, after, made_fresh, having_made}
+use Rattle.asl_machine.specs.Step.{Line, after, made_fresh, having_made}
 use Rattle.asl_machine.proofs.Lists.{get_same, get_other}
+use Rattle.asl_machine.proofs.Following.{depth_in as thread_depth}
+use Rattle.asl_machine.proofs.ValueLines.{at_of}
+use Rattle.asl_machine.proofs.LineKinds.{Kind, Setting, Going, Storing, Making, Calling, Returning, Ending, Entering, Waiting, Leaving, Failing}
 use Rattle.asl_machine.proofs.Freshness.{no_fresh, made_either, made_keeps, made_new, made_outside}
-
--- how many sections a thread is in
-abbrev depth_of : Thread → ℕ
-depth_of thread = option_map_or (λ (a : Activity). a.depth) (activity_of thread) 0
 
 -- what a step leaves of a running thread: it runs on with the same fresh objects; or it has none, and is in no section; or it
 -- has made an object; or nothing has changed
 pub data Left (image : Image) (s : State) (u : ℕ) (a : Activity) (new : State) : Type 0 where
   RunsOn : (b : Activity) (objects : List Object) (holding : Holding) → new ≡ after s u (Running b) objects holding → b.fresh ≡ a.fresh → Left image s u a new
-  HasNone : (thread : Thread) (objects : List Object) (holding : Holding) → new ≡ after s u thread objects holding → fresh_of thread ≡ [] → depth_of thread ≡ 0 → Left image s u a new
+  HasNone : (thread : Thread) (objects : List Object) (holding : Holding) → new ≡ after s u thread objects holding → fresh_of thread ≡ [] → thread_depth thread ≡ 0 → Left image s u a new
   Makes : (to cells class : ℕ) (objects : List Object) (holding : Holding) → new ≡ after s u (Running (having_made image.version a to (length s.objects))) objects holding →
       slice_get image.code a.top.pc ≡ Some (instr.New to cells class) → Left image s u a new
   Nothing : new ≡ s → Left image s u a new
 
-module _ (image : Image) (s : State) (u : ℕ) (a : Activity) where
-  at_here : At
-  at_here = record { image = image; state = s; thread = u; activity = a }
-
-  failed : (f : _) (new : State) → Fails (record { image = image; state = s; thread = u; activity = a }) f new → Left image s u a new
-  failed f new e = HasNone (Failed f) s.objects _ e refl refl
-
-  pub line_left : (i : Instr) (r : Reply) (new : State) → slice_get image.code a.top.pc ≡ Some i → Line (record { image = image; state = s; thread = u; activity = a }) i r new → Left image s u a new
-  line_left (instr.SetInt x n) reply.Ran new here e = RunsOn _ s.objects s.holding e refl
-  line_left (instr.SetNull x) reply.Ran new here e = RunsOn _ s.objects s.holding e refl
-  line_left (instr.Move x y) reply.Ran new here e = RunsOn _ s.objects s.holding e.sets refl
-  line_left (instr.Add x y z) reply.Ran new here e = RunsOn _ s.objects s.holding e.sets refl
-  line_left (instr.Add x y z) (reply.Fault fault.BadType) new here e = failed fault.BadType new e.fails
-  line_left (instr.Subtract x y z) reply.Ran new here e = RunsOn _ s.objects s.holding e.sets refl
-  line_left (instr.Subtract x y z) (reply.Fault fault.BadType) new here e = failed fault.BadType new e.fails
-  line_left (instr.LessThan x y z) reply.Ran new here (inl e) = RunsOn _ s.objects s.holding e.sets refl
-  line_left (instr.LessThan x y z) reply.Ran new here (inr e) = RunsOn _ s.objects s.holding e.sets refl
-  line_left (instr.LessThan x y z) (reply.Fault fault.BadType) new here e = failed fault.BadType new e.fails
-  line_left (instr.Equals x y z) reply.Ran new here (inl e) = RunsOn _ s.objects s.holding e.sets refl
-  line_left (instr.Equals x y z) reply.Ran new here (inr e) = RunsOn _ s.objects s.holding e.sets refl
-  line_left (instr.GlobalAddress x g) reply.Ran new here e = RunsOn _ s.objects s.holding e refl
-  line_left (instr.FieldAddress x y n) reply.Ran new here e = RunsOn _ s.objects s.holding e.sets refl
-  line_left (instr.FieldAddress x y n) (reply.Fault fault.Null) new here e = failed fault.Null new e.1
-  line_left (instr.FieldAddress x y n) (reply.Fault fault.BadType) new here e = failed fault.BadType new e.2
-  line_left (instr.FieldAddress x y n) (reply.Fault fault.Bounds) new here e = failed fault.Bounds new e.fails
-  line_left (instr.Load x y) reply.Ran new here e = RunsOn _ s.objects s.holding e.sets refl
-  line_left (instr.Load x y) (reply.Fault fault.Null) new here e = failed fault.Null new e.1
-  line_left (instr.Load x y) (reply.Fault fault.BadType) new here e = failed fault.BadType new e.2
-  line_left (instr.Load x y) (reply.Fault (fault.Unprotected cell effect)) new here e = failed (fault.Unprotected cell effect) new e.fails
-  line_left (instr.Store x y) reply.Ran new here e = RunsOn _ _ s.holding e.goes_on refl
-  line_left (instr.Store x y) (reply.Fault fault.Null) new here e = failed fault.Null new e.1
-  line_left (instr.Store x y) (reply.Fault fault.BadType) new here e = failed fault.BadType new e.2
-  line_left (instr.Store x y) (reply.Fault (fault.Unprotected cell effect)) new here e = failed (fault.Unprotected cell effect) new e.fails
-  line_left (instr.New x n class) reply.Ran new here e = Makes x n class _ s.holding e.makes here
-  line_left (instr.New x n class) (reply.Fault fault.Full) new here e = failed fault.Full new e.1
-  line_left (instr.Jump target) reply.Ran new here e = RunsOn _ s.objects s.holding e refl
-  line_left (instr.JumpIfZero x target) reply.Ran new here (inl e) = RunsOn _ s.objects s.holding e.goes_to refl
-  line_left (instr.JumpIfZero x target) reply.Ran new here (inr e) = RunsOn _ s.objects s.holding e.goes_on refl
-  line_left (instr.Call x first g) reply.Ran new here e = RunsOn _ s.objects s.holding e.calls refl
-  line_left (instr.Call x first g) (reply.Fault fault.Stack) new here e = failed fault.Stack new e.1
-  line_left (instr.Return from) reply.Ran new here (inl e) = RunsOn _ s.objects s.holding e.returns refl
-  line_left (instr.Return from) reply.Ran new here (inr e) = HasNone (Done e.value) s.objects s.holding e.ends refl refl
-  line_left (instr.Return from) (reply.Fault fault.Open) new here e = failed fault.Open new e.fails
-  line_left (instr.Output from) (reply.Out value) new here e = RunsOn _ s.objects s.holding e.goes_on refl
-  line_left (instr.Acquire list) reply.Ran new here (inl e) = RunsOn _ s.objects s.holding e.goes_on refl
-  line_left (instr.Acquire list) reply.Ran new here (inr e) = RunsOn _ s.objects _ e.goes_on refl
-  line_left (instr.Acquire list) reply.Blocked new here e = Nothing e.same
-  line_left (instr.Acquire list) (reply.Fault fault.Deep) new here e = failed fault.Deep new e.1
-  line_left instr.Release reply.Ran new here (inl e) = RunsOn _ s.objects s.holding e.goes_on refl
-  line_left instr.Release reply.Ran new here (inr e) = HasNone _ s.objects _ e.leaves refl refl
-  line_left instr.Release (reply.Fault fault.NoSection) new here e = failed fault.NoSection new e.1
-  line_left i r new here e = absurd e
+-- each kind of line leaves one of these
+pub kind_left : (image : Image) (s : State) (u : ℕ) (a : Activity) (i : Instr) (r : Reply) (new : State) → slice_get image.code a.top.pc ≡ Some i → Kind (at_of image s u a) i r new → Left image s u a new
+kind_left image s u a i r new here (Setting to v comes e) = RunsOn _ s.objects s.holding e refl
+kind_left image s u a i r new here (Going depth target deep e) = RunsOn _ s.objects s.holding e refl
+kind_left image s u a i r new here (Storing address from same ran e) = RunsOn _ _ s.holding e.goes_on refl
+kind_left image s u a i r new here (Making to cells class same ran e) = Makes to cells class _ s.holding e.makes (here ∙ ap (λ z. Some z) same)
+kind_left image s u a i r new here (Calling to first g e) = RunsOn _ s.objects s.holding e.calls refl
+kind_left image s u a i r new here (Returning from e) = RunsOn _ s.objects s.holding e.returns refl
+kind_left image s u a i r new here (Ending from e) = HasNone (Done e.value) s.objects s.holding e.ends refl refl
+kind_left image s u a i r new here (Entering list same ran e) = RunsOn _ s.objects _ e.goes_on refl
+kind_left image s u a i r new here (Waiting list e) = Nothing e.same
+kind_left image s u a i r new here (Leaving same ran e) = HasNone _ s.objects _ e.leaves refl refl
+kind_left image s u a i r new here (Failing f same e) = HasNone (Failed f) s.objects _ e refl refl
 
 -- ---- the threads after a step
 

@@ -1,14 +1,16 @@
--- What a store leaves of the heap: the objects, their classes and their sizes, and each cell but the one that is written.
-use Rattle.std.proofs.Common.{◌≡◌, ◌≢◌, ℕ, ◌<◌, ◌⊎◌, List, Option, Some, None, length, set, slice_get, refl, ap, sym, ◌∙◌, subst, inl, inr, length-set}
+-- What a store leaves of the heap: the objects, their classes and their sizes, and each cell but the one that is written. And what a `new`
+-- leaves of the addresses in cells.
+use Rattle.std.proofs.Common.{◌≡◌, ◌≢◌, ℕ, pos, ◌<◌, ◌⊎◌, ◌++◌, List, [], ◌∷◌, Option, Some, None, length, set, slice_get, refl, ap, sym, ◌∙◌, subst, inl, inr, length-set}
 use Rattle.std.specs.Prelude.{IsSome, option_map, option_and_then}
 use Rattle.std.specs.Option.{option_map_or}
 use Rattle.std.proofs.lemmas.Bool.Decides.{eqb_tells}
 use Rattle.std.proofs.lemmas.Option.{slice_get_within}
 use Rattle.asl_code.specs.declared.value.Value.{Value}
+use Rattle.asl_code.specs.declared.value.Value.TheVariants.{Int, Addr}
 use Rattle.asl_code.specs.declared.value.Cell.{Cell}
-use Rattle.asl_machine.specs.State.{Object, cell_at, class_of, size_of, with_cell, written}
+use Rattle.asl_machine.specs.State.{Object, cell_at, class_of, size_of, with_cell, written, new_object}
 use Rattle.asl_expression.specs.Expression.{cell_of}
-use Rattle.asl_machine.proofs.Lists.{get_same, get_other, get_kept, get_either}
+use Rattle.asl_machine.proofs.Lists.{get_same, get_other, get_kept, get_either, one_more, replicated}
 
 -- after a store an object is as it was, or has another value in one cell
 store_object : (objects : List Object) (c : Cell) (v : Value) (n : ℕ) → (slice_get (written objects c v) n ≡ slice_get objects n)
@@ -147,3 +149,23 @@ class_there objects cell v e =
       | None ↦ λ is f. cc
       | Some p ↦ λ is f. (p.class, ap (option_map (λ (q : Object). q.class)) is)
     ] refl e
+
+-- an object that has a class is there
+pub class_within : (objects : List Object) (o class : ℕ) → class_of objects o ≡ Some class → o < length objects
+class_within objects o class of =
+    elim (slice_get objects o) as (λ x. slice_get objects o ≡ x → option_map (λ (y : Object). y.class) x ≡ Some class → o < length objects) [
+      | None ↦ λ is e. cc
+      | Some x ↦ λ is e. slice_get_within objects o x is
+    ] refl of
+
+-- after a `new` an address in a cell is one that stood there before
+pub old_address : (objects : List Object) (cells class : ℕ) (cell : Cell) (o k : ℕ) → cell_at (objects ++ new_object class cells ∷ []) cell ≡ Some (Addr o k) → cell_at objects cell ≡ Some (Addr o k)
+old_address objects cells class cell o k at =
+    elim (slice_get (objects ++ new_object class cells ∷ []) cell.object) as (λ x. slice_get (objects ++ new_object class cells ∷ []) cell.object ≡ x →
+    option_and_then (λ (p : Object). slice_get p.cells cell.offset) x ≡ Some (Addr o k) → cell_at objects cell ≡ Some (Addr o k)) [
+      | None ↦ λ is f. cc
+      | Some p ↦ λ is f. elim (one_more objects (new_object class cells) p cell.object is) [
+        | inl before ↦ ap (option_and_then (λ (q : Object). slice_get q.cells cell.offset)) before ∙ f
+        | inr made ↦ absurd (let z : Addr o k ≡ Int (pos 0) = replicated cells cell.offset (Int (pos 0)) (Addr o k) (ap (λ (q : Object). slice_get q.cells cell.offset) (sym made) ∙ f) in cc)
+      ]
+    ] refl at

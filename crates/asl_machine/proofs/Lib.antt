@@ -30,8 +30,11 @@ pub mod ControlLines
 pub mod Table
 pub mod LinesLeft
 pub mod Unique
+-- the kinds of lines
+pub mod LineKinds
 -- runs, and what they reach
 pub mod Lines
+pub mod StepLeaves
 pub mod Reached
 pub mod Runs
 pub mod TableRuns
@@ -40,6 +43,7 @@ pub mod Freshness
 pub mod FreshLeft
 pub mod MadeBy
 pub mod Elsewhere
+pub mod Unknown
 pub mod ApartTurns
 pub mod ApartHeaps
 pub mod Apart

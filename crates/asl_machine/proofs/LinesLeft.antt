@@ -2,7 +2,7 @@
 -- what its tests tell.
 use Rattle.std.proofs.Common.{◌≡◌, ℕ, ℤ, pos, ◌+◌, ◌-◌, ◌<◌, ◌==◌, ◌++◌, ◌∷◌, ltb, Bool, true, false, cond, List, [], Some, None, Result, Ok, Err, length, refl, ap, sym, ◌∙◌, subst, arith, eq-eqb, ne_eqb}
 use Rattle.std.specs.Prelude.{unwrap_or}
-use Rattle.std.specs.Prelude.{int_lt, ◌<ℤ◌, ◌≤ℤ◌, option_and_then}
+use Rattle.std.specs.Prelude.{int_lt, ◌<ℤ◌, option_and_then}
 use Rattle.std.proofs.lemmas.Int.{ints}
 use Rattle.asl_code.specs.declared.value.Value.{Value}
 use Rattle.asl_code.specs.declared.value.Value.TheVariants.{Int, Null, Addr}
@@ -19,7 +19,7 @@ use Rattle.asl_machine.specs.Calls.{frame_count, with_register, with_result}
 use Rattle.asl_machine.specs.Cover.{cover}
 use Rattle.asl_expression.specs.Expression.{cell_of}
 use Rattle.asl_machine.specs.Request.{locks_of, request_of}
-use Rattle.asl_machine.specs.Step.{At, advanced, going_on, called, returned, having_made, left_last, after, Reads, ReadsAddress, is_allowed, Sets, ContinuesAt, GoesTo, Fails, are_integers, FailsOperands, is_zero, ReturnsTo, Asks}
+use Rattle.asl_machine.specs.Step.{At, advanced, going_on, called, returned, having_made, left_last, after, Reads, ReadsAddress, is_allowed, Sets, ContinuesAt, GoesTo, Fails, are_integers, FailsIntegers, is_zero, ReturnsTo, Asks}
 use Rattle.asl_machine.specs.StepFunction.{Left, set_left, computed, compared, truth, same_value, jump_left, address_or_bounds, address_moved, make_left, allowed_cell, loaded, accessed, accessed_by, store_left, left_alone, return_fate, call_left, return_left, activity_moved, acquire_left, release_left, turn_by, register_of}
 use Rattle.asl_machine.proofs.InstrGroups.{here_place}
 
@@ -60,10 +60,10 @@ pub only_computed : (at : At) (operation : ℤ → ℤ → Value) (to left right
 only_computed at operation to left right x y v n p q e h =
     only_set at to _ v n (computed_is at operation left right (Int x) (Int y) p q ∙ ap {A = Value} {B = Result Value Fault} (λ w. Ok w) e) h
 
-pub only_uncomputed : (at : At) (operation : ℤ → ℤ → Value) (to left right : ℕ) (n : State) → FailsOperands at left right n →
+pub only_uncomputed : (at : At) (operation : ℤ → ℤ → Value) (to left right : ℕ) (n : State) → FailsIntegers at left right n →
     IsLeft at (set_left (here_place at.state at.thread at.activity) to (computed operation (register_of at.activity.top left) (register_of at.activity.top right))) (reply.Fault fault.BadType) n
 only_uncomputed at operation to left right n h =
-    only_unset at to _ fault.BadType n (computed_is at operation left right h.x h.y h.reads_left h.reads_right ∙ not_computed operation h.x h.y h.other) h.fails
+    only_unset at to _ fault.BadType n (computed_is at operation left right h.0 h.1 h.2 h.3 ∙ not_computed operation h.0 h.1 h.4.0) h.4.1
 
 -- the answer to a test that is known
 pub lower : (x y : ℤ) → x <ℤ y → compared x y ≡ Int (pos 1)
@@ -74,10 +74,10 @@ lower x y lt =
     ] refl
 
 -- the answer where the first is not the lower
-pub not_lower : (x y : ℤ) → y ≤ℤ x → compared x y ≡ Int (pos 0)
-not_lower x y le =
+pub not_lower : (x y : ℤ) → ¬ (x <ℤ y) → compared x y ≡ Int (pos 0)
+not_lower x y not =
     elim (int_lt x y) as (λ b. int_lt x y ≡ b → truth b ≡ Int (pos 0)) [
-      | true ↦ λ e. absurd (omega (arith, ints))
+      | true ↦ λ e. absurd (not (omega (arith, ints)))
       | false ↦ λ e. refl
     ] refl
 

@@ -20,38 +20,27 @@ use Rattle.asl_machine.proofs.Invariant.{step_sound}
 use Rattle.asl_machine.proofs.Starts.{start_sound}
 use Rattle.asl_machine.proofs.Unique.{step_only}
 use Rattle.asl_machine.proofs.Freshness.{no_fresh}
+use Rattle.asl_machine.proofs.LineKinds.{StepKind, Over, Does, step_kind}
 use Rattle.asl_machine.proofs.Apart.{step_apart}
 use Rattle.asl_machine.proofs.ReachedApart.{start_apart, start_fresh}
-use Rattle.asl_machine.proofs.FreshLeft.{line_left, fresh_in, depth_in, fresh_was, fresh_still, fresh_made}
+use Rattle.asl_machine.proofs.FreshLeft.{kind_left, fresh_in, depth_in, fresh_was, fresh_still, fresh_made}
 
 same_activity : (o : Option Activity) (a b : Activity) → o ≡ Some a → o ≡ Some b → a ≡ b
 same_activity o a b e f = cc
 
 pub step_fresh_was : (image : Image) (s : State) (u : ℕ) (r : Reply) (new : State) → Step image s u r new → (t o : ℕ) → IsFreshFor new t o → IsFreshFor s t o ⊎ ((u ≡ t) × MakesInside image s t o)
-step_fresh_was image s u r new step t o f =
-    elim (slice_get s.threads u) as (λ x. slice_get s.threads u ≡ x → StepOf image s u x r new → IsFreshFor s t o ⊎ ((u ≡ t) × MakesInside image s t o)) [
-      | None ↦ λ is h. absurd h
-      | Some thread ↦ λ is h. by_thread thread is h
-    ] refl step
+step_fresh_was image s u r new step t o f = by_kind (step_kind image s u r new step)
   where
-    by_thread : (thread : Thread) → slice_get s.threads u ≡ Some thread → StepOf image s u (Some thread) r new → IsFreshFor s t o ⊎ ((u ≡ t) × MakesInside image s t o)
-    by_thread (Running a) is h =
-        fresh_was image s u a (slice_get_within s.threads u (Running a) is) (ap (option_and_then activity_of) is) new (line_left image s u a h.0 r new h.1 h.2) t o f
-    by_thread (Done v) is h = inl (sym (ap (λ (x : State). is_fresh (fresh_at x.threads t) o) h.1) ∙ f)
-    by_thread (Failed v) is h = inl (sym (ap (λ (x : State). is_fresh (fresh_at x.threads t) o) h.1) ∙ f)
+    by_kind : StepKind image s u r new → IsFreshFor s t o ⊎ ((u ≡ t) × MakesInside image s t o)
+    by_kind (Over e) = inl (sym (ap (λ (x : State). is_fresh (fresh_at x.threads t) o) e) ∙ f)
+    by_kind (Does a i is here kind) = fresh_was image s u a (slice_get_within s.threads u (Running a) is) (ap (option_and_then activity_of) is) new (kind_left image s u a i r new here kind) t o f
 
 pub step_fresh_still : (image : Image) (s : State) (u : ℕ) (r : Reply) (new : State) → Step image s u r new → (t o : ℕ) → 0 < depth_at new.threads t → IsFreshFor s t o → IsFreshFor new t o
-step_fresh_still image s u r new step t o inside f =
-    elim (slice_get s.threads u) as (λ x. slice_get s.threads u ≡ x → StepOf image s u x r new → IsFreshFor new t o) [
-      | None ↦ λ is h. absurd h
-      | Some thread ↦ λ is h. by_thread thread is h
-    ] refl step
+step_fresh_still image s u r new step t o inside f = by_kind (step_kind image s u r new step)
   where
-    by_thread : (thread : Thread) → slice_get s.threads u ≡ Some thread → StepOf image s u (Some thread) r new → IsFreshFor new t o
-    by_thread (Running a) is h =
-        fresh_still image s u a (slice_get_within s.threads u (Running a) is) (ap (option_and_then activity_of) is) new (line_left image s u a h.0 r new h.1 h.2) t o inside f
-    by_thread (Done v) is h = ap (λ (x : State). is_fresh (fresh_at x.threads t) o) h.1 ∙ f
-    by_thread (Failed v) is h = ap (λ (x : State). is_fresh (fresh_at x.threads t) o) h.1 ∙ f
+    by_kind : StepKind image s u r new → IsFreshFor new t o
+    by_kind (Over e) = ap (λ (x : State). is_fresh (fresh_at x.threads t) o) e ∙ f
+    by_kind (Does a i is here kind) = fresh_still image s u a (slice_get_within s.threads u (Running a) is) (ap (option_and_then activity_of) is) new (kind_left image s u a i r new here kind) t o inside f
 
 step_fresh_made : (image : Image) (s : State) (t : ℕ) (r : Reply) (new : State) (o : ℕ) → IsTrue (has_fresh image.version) → Step image s t r new → MakesInside image s t o → 0 < depth_at new.threads t → IsFreshFor new t o
 step_fresh_made image s t r new o has step m inside =

@@ -28,15 +28,15 @@ line_there image s t a h here (instr.SetInt to number) fits = refl
 line_there image s t a h here (instr.SetNull to) fits = refl
 line_there image s t a h here (instr.Move to from) fits =
     let count = h.placed.registers in
-    record { value = register_of a.top from; reads_value = read_there a from (omega (arith, fits.1.0)); sets = refl }
+    (register_of a.top from, read_there a from (omega (arith, fits.1.0)), refl)
 line_there image s t a h here (instr.Add to left right) fits =
     let count = h.placed.registers in
-    computed_line (at_of image s t a) (instr.Add to left right) added to left right (λ x y p q. record { x = x; y = y; reads_left = p; reads_right = q; sets = refl }) (λ n k. k)
+    computed_line (at_of image s t a) (instr.Add to left right) added to left right (λ x y p q. (x, y, p, q, refl)) (λ n k. k)
     (register_of a.top left) (register_of a.top right)
     (read_there a left (omega (arith, fits.1.0))) (read_there a right (omega (arith, fits.1.1.0)))
 line_there image s t a h here (instr.Subtract to left right) fits =
     let count = h.placed.registers in
-    computed_line (at_of image s t a) (instr.Subtract to left right) subtracted to left right (λ x y p q. record { x = x; y = y; reads_left = p; reads_right = q; sets = refl }) (λ n k. k)
+    computed_line (at_of image s t a) (instr.Subtract to left right) subtracted to left right (λ x y p q. (x, y, p, q, refl)) (λ n k. k)
     (register_of a.top left) (register_of a.top right)
     (read_there a left (omega (arith, fits.1.0))) (read_there a right (omega (arith, fits.1.1.0)))
 line_there image s t a h here (instr.LessThan to left right) fits =
@@ -68,7 +68,7 @@ line_there image s t a h here (instr.JumpIfZero test target) fits =
     jump_line (at_of image s t a) test target (register_of a.top test) (read_there a test (omega (arith, fits.0)))
 line_there image s t a h here (instr.Output from) fits =
     let count = h.placed.registers in
-    record { reads_value = read_there a from (omega (arith, fits.0)); goes_on = refl }
+    (read_there a from (omega (arith, fits.0)), refl)
 line_there image s t a h here (instr.Call to first function) fits = call_line (at_of image s t a) to first function fits.1.0.0 fits.1.0.1 h.placed.few
 line_there image s t a h here (instr.Return from) fits =
     let count = h.placed.registers in

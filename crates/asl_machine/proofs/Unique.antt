@@ -16,7 +16,7 @@ use Rattle.asl_machine.specs.State.{Activity, Thread, Running, Done, Failed, Sta
 use Rattle.asl_machine.specs.Calls.{frame_count}
 use Rattle.asl_machine.specs.Request.{locks_of, request_of}
 use Rattle.asl_machine.specs.Step.{advanced, going_on, returned, after, ContinuesAt, Line, StepOf, Step}
-use Rattle.asl_machine.specs.StepFunction.{added, subtracted, compared, store_left, left_by, left_at, step_at, step_of, register_of}
+use Rattle.asl_machine.specs.StepFunction.{added, subtracted, compared, same_value, store_left, left_by, left_at, step_at, step_of, register_of}
 use Rattle.asl_lock_forest.proofs.Grantable.{can_grant-tells, CanGrant-tested}
 use Rattle.asl_machine.proofs.InstrGroups.{here_place}
 use Rattle.asl_machine.proofs.Invariant.{after_same}
@@ -30,26 +30,25 @@ only_line : (image : Image) (s : State) (t : ℕ) (a : Activity) → slice_get s
 only_line image s t a here (instr.SetInt to number) reply.Ran n h = (refl, h)
 only_line image s t a here (instr.SetNull to) reply.Ran n h = (refl, h)
 only_line image s t a here (instr.Move to from) reply.Ran n h =
-    let at = at_of image s t a in only_set at to _ h.value n (ap {A = Value} {B = Result Value Fault} (λ w. Ok w) (reads_is at from _ h.reads_value)) h.sets
+    let at = at_of image s t a in only_set at to _ h.0 n (ap {A = Value} {B = Result Value Fault} (λ w. Ok w) (reads_is at from _ h.1)) h.2
 only_line image s t a here (instr.Add to left right) reply.Ran n h =
-    only_computed (at_of image s t a) added to left right h.x h.y _ n h.reads_left h.reads_right refl h.sets
+    only_computed (at_of image s t a) added to left right h.0 h.1 _ n h.2 h.3 refl h.4
 only_line image s t a here (instr.Add to left right) (reply.Fault fault.BadType) n h = only_uncomputed (at_of image s t a) added to left right n h
 only_line image s t a here (instr.Subtract to left right) reply.Ran n h =
-    only_computed (at_of image s t a) subtracted to left right h.x h.y _ n h.reads_left h.reads_right refl h.sets
+    only_computed (at_of image s t a) subtracted to left right h.0 h.1 _ n h.2 h.3 refl h.4
 only_line image s t a here (instr.Subtract to left right) (reply.Fault fault.BadType) n h = only_uncomputed (at_of image s t a) subtracted to left right n h
 only_line image s t a here (instr.LessThan to left right) reply.Ran n h =
     let at = at_of image s t a in
-    elim h [
-      | inl below ↦ only_computed at compared to left right below.x below.y _ n below.reads_left below.reads_right (lower below.x below.y below.below) below.sets
-      | inr above ↦ only_computed at compared to left right above.x above.y _ n above.reads_left above.reads_right (not_lower above.x above.y above.not_below) above.sets
+    elim h.4 [
+      | inl lower_left ↦ only_computed at compared to left right h.0 h.1 _ n h.2 h.3 (lower h.0 h.1 lower_left.0) lower_left.1
+      | inr other ↦ only_computed at compared to left right h.0 h.1 _ n h.2 h.3 (not_lower h.0 h.1 other.0) other.1
     ]
 only_line image s t a here (instr.LessThan to left right) (reply.Fault fault.BadType) n h = only_uncomputed (at_of image s t a) compared to left right n h
 only_line image s t a here (instr.Equals to left right) reply.Ran n h =
     let at = at_of image s t a in
-    elim h [
-      | inl same ↦ only_equal at to left right same.value same.value true n same.reads_left same.reads_right (same_self same.value) same.sets
-      | inr other ↦
-          only_equal at to left right other.x other.y false n other.reads_left other.reads_right (false_from_ne_true _ (λ e. other.other (same_is other.x other.y e))) other.sets
+    elim h.4 [
+      | inl same ↦ only_equal at to left right h.0 h.1 true n h.2 h.3 (ap (same_value h.0) (sym same.0) ∙ same_self h.0) same.1
+      | inr other ↦ only_equal at to left right h.0 h.1 false n h.2 h.3 (false_from_ne_true _ (λ e. other.0 (same_is h.0 h.1 e))) other.1
     ]
 only_line image s t a here (instr.GlobalAddress to global) reply.Ran n h = (refl, h)
 only_line image s t a here (instr.FieldAddress to from places) reply.Ran n h =
@@ -97,12 +96,12 @@ only_line image s t a here (instr.Store address from) (reply.Fault (fault.Unprot
 only_line image s t a here (instr.Jump target) reply.Ran n h = (refl, h)
 only_line image s t a here (instr.JumpIfZero test target) reply.Ran n h =
     let at = at_of image s t a in
-    elim h [
-      | inl jumps ↦ only_jump at test target jumps.value true n jumps.reads_value jumps.is jumps.goes_to
-      | inr passes ↦ only_jump at test target passes.value false n passes.reads_value passes.is_not passes.goes_on
+    elim h.2 [
+      | inl jumps ↦ only_jump at test target h.0 true n h.1 jumps.0 jumps.1
+      | inr passes ↦ only_jump at test target h.0 false n h.1 passes.0 passes.1
     ]
 only_line image s t a here (instr.Output from) (reply.Out value) n h =
-    let at = at_of image s t a in (ap {A = Value} {B = Reply} (λ v. reply.Out v) (sym (reads_is at from value h.reads_value)), h.goes_on)
+    let at = at_of image s t a in (ap {A = Value} {B = Reply} (λ v. reply.Out v) (sym (reads_is at from value h.0)), h.1)
 only_line image s t a here (instr.Call to first function) reply.Ran n h =
     let at = at_of image s t a in
     let room = h.room in
@@ -117,7 +116,7 @@ only_line image s t a here (instr.Return from) reply.Ran n h =
       | inr ends ↦ only_last at ends.value _ true reply.Ran n ends.last (reads_is at from _ ends.reads_value) (zero_test _ ends.outside) (refl, ends.ends)
     ]
 only_line image s t a here (instr.Return from) (reply.Fault fault.Open) n h =
-    let at = at_of image s t a in only_last at _ _ false (reply.Fault fault.Open) n h.last refl (some_test _ h.inside) (refl, h.fails)
+    let at = at_of image s t a in only_last at _ _ false (reply.Fault fault.Open) n h.0 refl (some_test _ h.1) (refl, h.2)
 only_line image s t a here (instr.Acquire list) reply.Ran n h =
     let at = at_of image s t a in
     let test = can_grant s.holding t (request_of s.objects a.top.regs (locks_of image list)) in

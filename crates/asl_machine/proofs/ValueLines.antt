@@ -19,7 +19,7 @@ use Rattle.asl_machine.specs.State.{Object, Activity, Running, State, cell_at, s
 use Rattle.asl_expression.specs.Expression.{cell_of}
 use Rattle.asl_machine.specs.Cover.{cover}
 use Rattle.asl_machine.specs.Access.{Points}
-use Rattle.asl_machine.specs.Step.{At, advanced_with, going_on, having_made, after, Reads, is_allowed, is_zero, FailsOperands, Line}
+use Rattle.asl_machine.specs.Step.{At, advanced_with, going_on, having_made, after, Reads, is_allowed, is_zero, FailsIntegers, Line}
 use Rattle.asl_machine.specs.StepFunction.{Left, set_left, computed, compared, truth, same_value, jump_left, address_or_bounds, address_moved, make_left, allowed_cell, loaded, accessed, store_left, turn_by, register_of}
 use Rattle.asl_machine.proofs.PackedValues.{same_is, same_self}
 use Rattle.asl_machine.proofs.InstrGroups.{here_place}
@@ -47,22 +47,20 @@ with_value at to value = after at.state at.thread (Running (going_on at.activity
 -- the line of an operation on two integers
 pub computed_line : (at : At) (i : Instr) (operation : ℤ → ℤ → Value) (to left right : ℕ) →
     ((x y : ℤ) → Reads at left (Int x) → Reads at right (Int y) → Line at i reply.Ran (with_value at to (operation x y))) →
-    ((n : State) → FailsOperands at left right n → Line at i (reply.Fault fault.BadType) n) → (x y : Value) → Reads at left x → Reads at right y →
+    ((n : State) → FailsIntegers at left right n → Line at i (reply.Fault fault.BadType) n) → (x y : Value) → Reads at left x → Reads at right y →
     IsLine at i (set_left (here_place at.state at.thread at.activity) to (computed operation x y))
 computed_line at i operation to left right good bad (Int x) (Int y) p q = good x y p q
-computed_line at i operation to left right good bad (Int x) Null p q = bad _ (record { x = Int x; y = Null; reads_left = p; reads_right = q; other = refl; fails = refl })
-computed_line at i operation to left right good bad (Int x) (Addr o k) p q =
-    bad _ (record { x = Int x; y = Addr o k; reads_left = p; reads_right = q; other = refl; fails = refl })
-computed_line at i operation to left right good bad Null y p q = bad _ (record { x = Null; y = y; reads_left = p; reads_right = q; other = refl; fails = refl })
-computed_line at i operation to left right good bad (Addr o k) y p q =
-    bad _ (record { x = Addr o k; y = y; reads_left = p; reads_right = q; other = refl; fails = refl })
+computed_line at i operation to left right good bad (Int x) Null p q = bad _ (Int x, Null, p, q, (refl, refl))
+computed_line at i operation to left right good bad (Int x) (Addr o k) p q = bad _ (Int x, Addr o k, p, q, (refl, refl))
+computed_line at i operation to left right good bad Null y p q = bad _ (Null, y, p, q, (refl, refl))
+computed_line at i operation to left right good bad (Addr o k) y p q = bad _ (Addr o k, y, p, q, (refl, refl))
 
 -- the test of the order of two integers
 pub below_line : (at : At) (to left right : ℕ) (x y : ℤ) → Reads at left (Int x) → Reads at right (Int y) → Line at (instr.LessThan to left right) reply.Ran (with_value at to (compared x y))
 below_line at to left right x y p q =
     elim (int_lt x y) as (λ b. int_lt x y ≡ b → Line at (instr.LessThan to left right) reply.Ran (with_value at to (truth b))) [
-      | true ↦ λ e. inl (record { x = x; y = y; reads_left = p; reads_right = q; below = omega (arith, ints); sets = refl })
-      | false ↦ λ e. inr (record { x = x; y = y; reads_left = p; reads_right = q; not_below = omega (arith, ints); sets = refl })
+      | true ↦ λ e. (x, y, p, q, inl (omega (arith, ints), refl))
+      | false ↦ λ e. (x, y, p, q, inr (λ lower. omega (arith, ints), refl))
     ] refl
 
 -- the test of two values
@@ -70,15 +68,8 @@ pub equal_line : (at : At) (to left right : ℕ) (x y : Value) → Reads at left
     IsLine at (instr.Equals to left right) (set_left (here_place at.state at.thread at.activity) to (Ok (truth (same_value x y))))
 equal_line at to left right x y p q =
     elim (same_value x y) as (λ b. same_value x y ≡ b → Line at (instr.Equals to left right) reply.Ran (with_value at to (truth b))) [
-      | true ↦ λ e. inl (record { value = x; reads_left = p; reads_right = q ∙ ap (λ (v : Value). Some v) (sym (same_is x y e)); sets = refl })
-      | false ↦ λ e. inr (record {
-        x = x;
-        y = y;
-        reads_left = p;
-        reads_right = q;
-        other = λ is. let yes = ap (same_value x) (sym is) ∙ same_self x in cc;
-        sets = refl;
-      })
+      | true ↦ λ e. (x, y, p, q, inl (same_is x y e, refl))
+      | false ↦ λ e. (x, y, p, q, inr (λ is. (let yes = ap (same_value x) (sym is) ∙ same_self x in cc), refl))
     ] refl
 
 -- a jump by a test of 0
@@ -86,8 +77,8 @@ pub jump_line : (at : At) (test target : ℕ) (v : Value) → Reads at test v �
     IsLine at (instr.JumpIfZero test target) (jump_left (here_place at.state at.thread at.activity) (cond (is_zero v) target (at.activity.top.pc + 1)))
 jump_line at test target v p =
     elim (is_zero v) as (λ b. is_zero v ≡ b → IsLine at (instr.JumpIfZero test target) (jump_left (here_place at.state at.thread at.activity) (cond b target (at.activity.top.pc + 1)))) [
-      | true ↦ λ e. inl (record { value = v; reads_value = p; is = e; goes_to = refl })
-      | false ↦ λ e. inr (record { value = v; reads_value = p; is_not = e; goes_on = refl })
+      | true ↦ λ e. (v, p, inl (e, refl))
+      | false ↦ λ e. (v, p, inr (e, refl))
     ] refl
 
 -- a value that is there is the one that is read

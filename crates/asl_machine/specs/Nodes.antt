@@ -1,4 +1,5 @@
--- Which nodes of the lock tree there are over the objects of a state (docs/LOCKS.md, "Nodes").
+-- Which nodes of the lock tree there are over the objects of a state (docs/LOCKS.md, "Nodes"). The invariant of a machine cites it
+-- (specs/WellFormed), and what `Machine` tells of requests and holders (src/machine/readers.rt); case: tests/cases/asl_machine/told.txt.
 use Rattle.std.specs.Prelude.{◌≡◌, ◌<◌, ℕ, List, Some, IsSome}
 use Rattle.asl_code.specs.declared.value.Cell.{Cell}
 use Rattle.asl_lock_forest.specs.declared.node.Node.{Node}

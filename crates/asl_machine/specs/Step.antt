@@ -1,6 +1,6 @@
 -- One step of a thread, as the instruction table says it (docs/INSTRUCTIONS.md, "A step"): a line for each instruction
 -- and each reply that it can give, named here by the instruction. A reply that an instruction never gives has no line.
-use Rattle.std.specs.Prelude.{◌≡◌, ◌≢◌, ℕ, ℤ, pos, ◌+◌, ◌-◌, ◌<◌, ◌≤◌, ◌<ℤ◌, ◌≤ℤ◌, ◌⊎◌, ◌&&◌, nat_lt, if◌then◌else◌, Bool, false, true, List, [], ◌∷◌, ◌++◌, length, Option, None, Some, slice_get, slice_set}
+use Rattle.std.specs.Prelude.{◌≡◌, ℕ, ℤ, pos, ◌+◌, ◌-◌, ◌<◌, ◌≤◌, ◌<ℤ◌, ◌⊎◌, ◌&&◌, nat_lt, if◌then◌else◌, Bool, false, true, List, [], ◌∷◌, ◌++◌, length, Option, None, Some, slice_get, slice_set}
 use Rattle.std.specs.Int.{w32, int_wrapping_add, int_wrapping_sub}
 use Rattle.std.specs.Ordering.{int_eq}
 use Rattle.asl_code.specs.declared.image.Function.{Function}
@@ -128,81 +128,30 @@ is_zero (Int x) = int_eq x (pos 0)
 is_zero Null = true
 is_zero (Addr object offset) = false
 
--- `mov`: the register gets the other's value
-pub record Moves (at : At) (to from : ℕ) (new : State) : Type 0 where
-  pub value : Value
-  pub reads_value : Reads at from value
-  pub sets : Sets at to value new
+-- so, of the register's value
+abbrev pub With : At → ℕ → (Value → Type 0) → Type 0
+With at register IsSo = (value : Value) × Reads at register value × IsSo value
 
--- `add` or `sub` of two integers
-pub record Computes (at : At) (operation : ℤ → ℤ → ℤ) (to left right : ℕ) (new : State) : Type 0 where
-  pub x : ℤ
-  pub y : ℤ
-  pub reads_left : Reads at left (Int x)
-  pub reads_right : Reads at right (Int y)
-  pub sets : Sets at to (Int (operation x y)) new
+-- so, of the values of two registers
+abbrev pub WithTwo : At → ℕ → ℕ → (Value → Value → Type 0) → Type 0
+WithTwo at left right IsSo = (x : Value) × (y : Value) × Reads at left x × Reads at right y × IsSo x y
 
--- `lt` of two integers of which the left one is the lower
-pub record IsBelow (at : At) (to left right : ℕ) (new : State) : Type 0 where
-  pub x : ℤ
-  pub y : ℤ
-  pub reads_left : Reads at left (Int x)
-  pub reads_right : Reads at right (Int y)
-  pub below : x <ℤ y
-  pub sets : Sets at to (Int (pos 1)) new
+-- so, of the integers in two registers
+abbrev pub WithIntegers : At → ℕ → ℕ → (ℤ → ℤ → Type 0) → Type 0
+WithIntegers at left right IsSo = (x : ℤ) × (y : ℤ) × Reads at left (Int x) × Reads at right (Int y) × IsSo x y
 
--- `lt` of two integers of which the left one is not the lower
-pub record IsNotBelow (at : At) (to left right : ℕ) (new : State) : Type 0 where
-  pub x : ℤ
-  pub y : ℤ
-  pub reads_left : Reads at left (Int x)
-  pub reads_right : Reads at right (Int y)
-  pub not_below : y ≤ℤ x
-  pub sets : Sets at to (Int (pos 0)) new
+-- the thread continues at its next instruction, with 1 in the register where it is so, and with 0 where it is not
+abbrev pub Tells : At → ℕ → Type 0 → State → Type 0
+Tells at to IsSo new = (IsSo × Sets at to (Int (pos 1)) new) ⊎ ((¬ IsSo) × Sets at to (Int (pos 0)) new)
 
--- `eq` where both registers have one value
-pub record AreSame (at : At) (to left right : ℕ) (new : State) : Type 0 where
-  pub value : Value
-  pub reads_left : Reads at left value
-  pub reads_right : Reads at right value
-  pub sets : Sets at to (Int (pos 1)) new
-
--- `eq` where the registers have different values
-pub record AreOther (at : At) (to left right : ℕ) (new : State) : Type 0 where
-  pub x : Value
-  pub y : Value
-  pub reads_left : Reads at left x
-  pub reads_right : Reads at right y
-  pub other : x ≢ y
-  pub sets : Sets at to (Int (pos 0)) new
-
--- `jz` where the register has zero
-pub record JumpsIfZero (at : At) (test target : ℕ) (new : State) : Type 0 where
-  pub value : Value
-  pub reads_value : Reads at test value
-  pub is : is_zero value ≡ true
-  pub goes_to : GoesTo at target new
-
--- `jz` where the register has anything else
-pub record PassesBy (at : At) (test : ℕ) (new : State) : Type 0 where
-  pub value : Value
-  pub reads_value : Reads at test value
-  pub is_not : is_zero value ≡ false
-  pub goes_on : ContinuesAt at at.activity.depth at.state.objects at.state.holding new
-
--- `out` of the register's value
-pub record Shows (at : At) (from : ℕ) (value : Value) (new : State) : Type 0 where
-  pub reads_value : Reads at from value
-  pub goes_on : ContinuesAt at at.activity.depth at.state.objects at.state.holding new
+-- a jump that is taken where a value is zero: to its target there, and else past it
+abbrev pub Branches : At → ℕ → Value → State → Type 0
+Branches at target value new =
+    ((is_zero value ≡ true) × GoesTo at target new) ⊎ ((is_zero value ≡ false) × ContinuesAt at at.activity.depth at.state.objects at.state.holding new)
 
 -- `add`, `sub` or `lt` of values that are not both integers
-pub record FailsOperands (at : At) (left right : ℕ) (new : State) : Type 0 where
-  pub x : Value
-  pub y : Value
-  pub reads_left : Reads at left x
-  pub reads_right : Reads at right y
-  pub other : are_integers x y ≡ false
-  pub fails : Fails at fault.BadType new
+abbrev pub FailsIntegers : At → ℕ → ℕ → State → Type 0
+FailsIntegers at left right new = WithTwo at left right (λ x y. (are_integers x y ≡ false) × Fails at fault.BadType new)
 
 -- `field`: the address so many cells on, in the same object
 pub record MovesOn (at : At) (to from places : ℕ) (new : State) : Type 0 where
@@ -289,12 +238,6 @@ pub record Returns (at : At) (from : ℕ) (new : State) : Type 0 where
   pub reads_value : Reads at from value
   pub ends : new ≡ after at.state at.thread (Done value) at.state.objects at.state.holding
 
--- `ret` from the last frame inside a section
-pub record FailsOpen (at : At) (new : State) : Type 0 where
-  pub last : at.activity.below ≡ []
-  pub inside : 0 < at.activity.depth
-  pub fails : Fails at fault.Open new
-
 -- `acq` inside a section counts the section, and looks at no lock
 pub record Nests (at : At) (new : State) : Type 0 where
   pub inside : 0 < at.activity.depth
@@ -336,14 +279,14 @@ pub record Leaves (at : At) (new : State) : Type 0 where
 abbrev pub Line : At → Instr → Reply → State → Type 0
 Line at (instr.SetInt to number) reply.Ran new = Sets at to (Int number) new
 Line at (instr.SetNull to) reply.Ran new = Sets at to Null new
-Line at (instr.Move to from) reply.Ran new = Moves at to from new
-Line at (instr.Add to left right) reply.Ran new = Computes at (int_wrapping_add w32) to left right new
-Line at (instr.Add to left right) (reply.Fault fault.BadType) new = FailsOperands at left right new
-Line at (instr.Subtract to left right) reply.Ran new = Computes at (int_wrapping_sub w32) to left right new
-Line at (instr.Subtract to left right) (reply.Fault fault.BadType) new = FailsOperands at left right new
-Line at (instr.LessThan to left right) reply.Ran new = IsBelow at to left right new ⊎ IsNotBelow at to left right new
-Line at (instr.LessThan to left right) (reply.Fault fault.BadType) new = FailsOperands at left right new
-Line at (instr.Equals to left right) reply.Ran new = AreSame at to left right new ⊎ AreOther at to left right new
+Line at (instr.Move to from) reply.Ran new = With at from (λ v. Sets at to v new)
+Line at (instr.Add to left right) reply.Ran new = WithIntegers at left right (λ x y. Sets at to (Int (int_wrapping_add w32 x y)) new)
+Line at (instr.Add to left right) (reply.Fault fault.BadType) new = FailsIntegers at left right new
+Line at (instr.Subtract to left right) reply.Ran new = WithIntegers at left right (λ x y. Sets at to (Int (int_wrapping_sub w32 x y)) new)
+Line at (instr.Subtract to left right) (reply.Fault fault.BadType) new = FailsIntegers at left right new
+Line at (instr.LessThan to left right) reply.Ran new = WithIntegers at left right (λ x y. Tells at to (x <ℤ y) new)
+Line at (instr.LessThan to left right) (reply.Fault fault.BadType) new = FailsIntegers at left right new
+Line at (instr.Equals to left right) reply.Ran new = WithTwo at left right (λ x y. Tells at to (x ≡ y) new)
 Line at (instr.GlobalAddress to global) reply.Ran new = Sets at to (Addr global 0) new
 Line at (instr.FieldAddress to from places) reply.Ran new = MovesOn at to from places new
 Line at (instr.FieldAddress to from places) (reply.Fault fault.Null) new = FailsNull at from new
@@ -360,12 +303,12 @@ Line at (instr.Store address from) (reply.Fault (fault.Unprotected cell effect))
 Line at (instr.New to cells class) reply.Ran new = Makes at to cells class new
 Line at (instr.New to cells class) (reply.Fault fault.Full) new = (length at.state.objects ≡ 65536) × Fails at fault.Full new
 Line at (instr.Jump target) reply.Ran new = GoesTo at target new
-Line at (instr.JumpIfZero test target) reply.Ran new = JumpsIfZero at test target new ⊎ PassesBy at test new
+Line at (instr.JumpIfZero test target) reply.Ran new = With at test (λ v. Branches at target v new)
 Line at (instr.Call to first function) reply.Ran new = Calls at to first function new
 Line at (instr.Call to first function) (reply.Fault fault.Stack) new = (frame_count at.activity ≡ 256) × Fails at fault.Stack new
 Line at (instr.Return from) reply.Ran new = ReturnsTo at from new ⊎ Returns at from new
-Line at (instr.Return from) (reply.Fault fault.Open) new = FailsOpen at new
-Line at (instr.Output from) (reply.Out value) new = Shows at from value new
+Line at (instr.Return from) (reply.Fault fault.Open) new = (at.activity.below ≡ []) × (0 < at.activity.depth) × Fails at fault.Open new
+Line at (instr.Output from) (reply.Out value) new = Reads at from value × ContinuesAt at at.activity.depth at.state.objects at.state.holding new
 Line at (instr.Acquire list) reply.Ran new = Nests at new ⊎ Enters at list new
 Line at (instr.Acquire list) reply.Blocked new = Waits at list new
 Line at (instr.Acquire list) (reply.Fault fault.Deep) new = (at.activity.depth ≡ 255) × Fails at fault.Deep new

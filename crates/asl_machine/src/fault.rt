@@ -33,7 +33,8 @@ pub enum MachineFault {
     /// A machine has 1 to as many threads as its program's version sets.
     #[error("BadCount")]
     BadCount,
-    /// There is no such thread.
+    /// There is no such thread. Judged by `Machine::step`; of journals again by `asl_journal`, of the words of `asl step` by `asl_tool`
+    /// (`commands/step.rt`).
     #[error("BadThread")]
     BadThread,
     /// An allocation failed.
