@@ -23,6 +23,7 @@ use Rattle.asl_machine.proofs.RootedRequests.{request_is_rooted}
 use Rattle.asl_machine.proofs.RequestEntries.{request_asks_modes}
 use Rattle.asl_machine.proofs.Following.{outside_here}
 use Rattle.asl_machine.proofs.Invariant.{here_of, instr_here}
+use Rattle.asl_machine.proofs.StepLeaves.{no_depth}
 use Rattle.asl_atomicity.specs.Serial.{heard, ListCovered}
 use Rattle.asl_atomicity.proofs.Computed.{IsGuarded}
 use Rattle.asl_atomicity.proofs.Swapping.{EntriesUnseen}
@@ -32,7 +33,7 @@ use Rattle.asl_atomicity.proofs.Reaching.{is_reached, run_apart}
 use Rattle.asl_atomicity.proofs.Renaming.{HasGlobals, has_globals}
 use Rattle.asl_atomicity.proofs.Growing.{request_grown}
 use Rattle.asl_atomicity.proofs.Entries.{request_same, still_free}
-use Rattle.asl_atomicity.proofs.Swaps.{stepped, same_here, no_depth, wrote_by}
+use Rattle.asl_atomicity.proofs.Swaps.{stepped, same_here, wrote_by}
 
 -- an entry that counts is granted
 granted : (image : Image) (s : State) (u : ℕ) (b : Activity) (list : ℕ) → slice_get s.threads u ≡ Some (Running b) → slice_get image.code b.top.pc ≡ Some (instr.Acquire list) → b.depth ≡ 0 →

@@ -22,9 +22,8 @@ use Rattle.asl_atomicity.specs.Renamed.{Renaming, reply_by, thread_by, IsRenamed
 use Rattle.asl_atomicity.proofs.Uniform.{IsNew}
 use Rattle.asl_atomicity.proofs.Swaps.{swapped}
 use Rattle.asl_atomicity.proofs.Guards.{entries_unseen}
-use Rattle.asl_atomicity.proofs.Moves.{others_stay, step_stands, two_told}
+use Rattle.asl_atomicity.proofs.Moves.{others_stay, step_stands, two_told, slot_depth}
 use Rattle.asl_atomicity.proofs.Outside.{outside_by}
-use Rattle.asl_atomicity.proofs.Serials.{slot_depth}
 use Rattle.asl_atomicity.proofs.Renamings.{then_by, none_by, reply_twice, renamed_twice, keeps_twice, each_twice, reply_stays, same_renamed, same_keeps, same_reply_by, same_replies, heard_by, heard_back, not_full_by}
 use Rattle.asl_atomicity.proofs.RenamedSteps.{step_both}
 use Rattle.asl_atomicity.proofs.SpokenObjects.{more_reply}

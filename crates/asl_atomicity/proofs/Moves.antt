@@ -81,8 +81,8 @@ moved_counts image count swap t (u ∷ us) s good i others counts =
     (subst (λ r. heard r ≢ []) k.1 counts.0, subst (λ z. AllCount image z us) k.2 rest)
 
 -- the depth of what stands at a thread's number
-abbrev pub depth_of_slot : Option Thread → ℕ
-depth_of_slot o = option_map_or (λ (a : Activity). a.depth) (option_and_then activity_of o) 0
+abbrev pub slot_depth : Option Thread → ℕ
+slot_depth o = option_map_or (λ (a : Activity). a.depth) (option_and_then activity_of o) 0
 
 -- and what follows is as serial as before
 pub moved_serial : (image : Image) (count : ℕ) → CanSwap image count →
@@ -92,7 +92,7 @@ moved_serial image count swap t before (u ∷ us) s good i others counts serial 
     let k = swap s u t good others.0 counts.0 i in
     let rest = moved_serial image count swap t (Some u) us (step_of image s u).state (step_stands image count s u good) (inside_stays image s u t others.0 i) others.1 counts.1 serial.1 in
     let first : (depth_at (step_of image s t).state.threads u ≡ 0) ⊎ (before ≡ Some u) = elim serial.0 [
-      | inl outside ↦ inl (ap depth_of_slot (others_stay image s t u others.0) ∙ outside)
+      | inl outside ↦ inl (ap slot_depth (others_stay image s t u others.0) ∙ outside)
       | inr same ↦ inr same
     ] in
     (first, subst (λ z. IsSerial image z (Some u) us) k.2 rest)

@@ -13,7 +13,7 @@ use Rattle.asl_atomicity.specs.Serial.{heard, is_outside, IsInside}
 use Rattle.asl_atomicity.specs.Renamed.{reply_by}
 use Rattle.asl_atomicity.proofs.Computed.{outside_of, outside, AllCount}
 use Rattle.asl_atomicity.proofs.Swapping.{AreOthers, Stands, CanSwap}
-use Rattle.asl_atomicity.proofs.Moves.{others_stay, step_stands, inside_stays, depth_of_slot}
+use Rattle.asl_atomicity.proofs.Moves.{others_stay, step_stands, inside_stays, slot_depth}
 
 pub outside_parts : (image : Image) (a b : List ℕ) (s : State) → outside image s (a ++ b) ≡ outside image s a ++ outside image (state_after image s a) b
 outside_parts image [] b s = refl
@@ -37,7 +37,7 @@ no_depth d xs inside = elim (eqb_tells d 0) [
 
 pub inside_outside : (image : Image) (s : State) (t : ℕ) (a : Activity) → slice_get s.threads t ≡ Some (Running a) → 0 < a.depth → outside_of image s t ≡ []
 inside_outside image s t a runs inside =
-    ap (λ d. if is_outside d then each (λ r. t) (heard (step_of image s t).reply) else []) (ap depth_of_slot runs) ∙ no_depth a.depth (each (λ r. t) (heard (step_of image s t).reply)) inside
+    ap (λ d. if is_outside d then each (λ r. t) (heard (step_of image s t).reply) else []) (ap slot_depth runs) ∙ no_depth a.depth (each (λ r. t) (heard (step_of image s t).reply)) inside
 
 -- one more at the end
 pub outside_more : (image : Image) (us : List ℕ) (t : ℕ) (s : State) → outside image s (us ++ t ∷ []) ≡ outside image s us ++ outside_of image (state_after image s us) t
@@ -58,7 +58,7 @@ moved_outside image count swap t (u ∷ us) s good i others counts =
     let k = swap s u t good others.0 counts.0 i in
     let rest = moved_outside image count swap t us (step_of image s u).state (step_stands image count s u good) (inside_stays image s u t others.0 i) others.1 counts.1 in
     ap₂ (λ x xs. x ++ xs)
-    (same_outside u (depth_at (step_of image s t).state.threads u) (depth_at s.threads u) (step_of image (step_of image s t).state u).reply (step_of image s u).reply (ap depth_of_slot (others_stay image s t u others.0)) (sym k.1))
+    (same_outside u (depth_at (step_of image s t).state.threads u) (depth_at s.threads u) (step_of image (step_of image s t).state u).reply (step_of image s u).reply (ap slot_depth (others_stay image s t u others.0)) (sym k.1))
     (ap (λ z. outside image z us) (sym k.2) ∙ rest)
 
 -- a step counts with other numbers where it counts

@@ -1,4 +1,5 @@
 -- What an instruction sets, computes, reaches and loads in a state with other numbers for objects has other numbers too.
+-- Where f renames objects, x_by f is x with each object's number n as f n.
 use Rattle.std.proofs.Common.{◌≡◌, ℕ, ℤ, zero, suc, ◌+◌, ◌==◌, ◌&&◌, Bool, true, false, replicate, List, ◌∷◌, Option, Some, None, Ok, Err, Result, length, unwrap_or, refl, ap, ap₂, sym, ◌∙◌, pos}
 use Rattle.std.specs.Prelude.{map as each, option_map}
 use Rattle.std.proofs.lemmas.List.{map-set}

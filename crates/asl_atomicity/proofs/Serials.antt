@@ -1,28 +1,25 @@
 -- A serial schedule, made step by step: a step inside a section goes after the last of its thread.
-use Rattle.std.proofs.Common.{◌≡◌, ◌≢◌, ℕ, zero, suc, ◌<◌, ◌==◌, ◌⊎◌, ◌++◌, List, [], ◌∷◌, Option, Some, None, length, slice_get, refl, ap, ap₂, sym, ◌∙◌, subst, inl, inr, arith}
-use Rattle.std.specs.Prelude.{option_and_then, All}
-use Rattle.std.specs.Option.{option_map_or}
+use Rattle.std.proofs.Common.{◌≡◌, ◌≢◌, ℕ, zero, suc, ◌<◌, ◌==◌, ◌⊎◌, ◌++◌, List, [], ◌∷◌, Some, None, length, slice_get, refl, ap, ap₂, sym, ◌∙◌, subst, inl, inr}
+use Rattle.std.specs.Prelude.{All}
 use Rattle.std.proofs.lemmas.List.{append_assoc, append-nil}
 use Rattle.std.proofs.lemmas.List.Elements.{All-head, All-tail}
 use Rattle.asl_code.specs.declared.image.Image.{Image}
 use Rattle.asl_code.specs.Fits.{FitsImage}
-use Rattle.asl_machine.specs.State.{Thread, Running, Activity, State, activity_of, depth_at}
+use Rattle.asl_machine.specs.State.{Thread, Running, State, depth_at}
 use Rattle.asl_machine.specs.Run.{first_thread, first_threads, start_of}
 use Rattle.asl_machine.specs.ComputedRun.{state_after}
 use Rattle.asl_machine.specs.StepFunction.{step_of}
 use Rattle.asl_machine.proofs.Lists.{one_more}
 use Rattle.asl_machine.proofs.Starts.{start_sound}
+use Rattle.asl_machine.proofs.StepLeaves.{no_depth}
 use Rattle.asl_atomicity.specs.Serial.{heard, IsInside}
 use Rattle.asl_atomicity.proofs.Computed.{told, AllCount, IsSerial, AreAlike, MakesOutside, HasSerial, outside_of, outside}
 use Rattle.asl_atomicity.proofs.Swapping.{Stands, CanSwap}
 use Rattle.asl_atomicity.proofs.Outside.{outside_parts, quiet_outside, inside_outside, outside_more, none_more, moved_outside}
-use Rattle.asl_atomicity.proofs.Moves.{state_parts, moves, moved_counts, moved_serial}
+use Rattle.asl_atomicity.proofs.Moves.{state_parts, moves, moved_counts, moved_serial, slot_depth}
 use Rattle.asl_atomicity.proofs.RunParts.{told_parts, counts_split, counts_join, last_of, last_end, serial_split, serial_join, run_stands, run_length, stays, LastAt, find_last, moved_reply, unheard, tell_heard, quiet}
 
 -- ---- the start
-
-abbrev pub slot_depth : Option Thread → ℕ
-slot_depth o = option_map_or (λ (a : Activity). a.depth) (option_and_then activity_of o) 0
 
 start_depth : (image : Image) (n t : ℕ) (thread : Thread) → slice_get (first_threads image n) t ≡ Some thread → slot_depth (Some thread) ≡ 0
 start_depth image zero t thread e = cc
@@ -140,9 +137,6 @@ module _ (image : Image) (count : ℕ) (swap : CanSwap image count) (s : State) 
       ]
     ]
   ]
-    where
-      no_depth : (d : ℕ) → d ≡ 0 → 0 < d → ⊥
-      no_depth d e p = omega arith
 
   all_steps : (rest done : List ℕ) → ((u : ℕ) → depth_at s.threads u ≡ 0) → All (λ t. t < length s.threads) rest → MakesOutside image (state_after image s done) rest → From done → From (done ++ rest)
   all_steps [] done fresh there m f = subst From (sym (append-nil done)) f

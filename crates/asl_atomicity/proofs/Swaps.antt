@@ -1,5 +1,5 @@
 -- Two neighbouring steps change places where the later one is inside a section.
-use Rattle.std.proofs.Common.{◌≡◌, ◌≢◌, ℕ, ◌<◌, set, List, Option, Some, None, Ok, Err, length, slice_get, refl, ap, sym, ◌∙◌, subst, arith, [], inl, inr}
+use Rattle.std.proofs.Common.{◌≡◌, ◌≢◌, ℕ, set, List, Option, Some, None, Ok, Err, length, slice_get, refl, ap, sym, ◌∙◌, subst, [], inl, inr}
 use Rattle.std.specs.Prelude.{option_and_then}
 use Rattle.std.specs.Option.{option_map_or}
 use Rattle.std.proofs.lemmas.Bool.{or_left, or_right}
@@ -23,6 +23,7 @@ use Rattle.asl_machine.specs.WellFormed.{SatisfiesInvariant}
 use Rattle.asl_machine.proofs.Lists.{get_other}
 use Rattle.asl_machine.proofs.WellFormedHeaps.{length-written}
 use Rattle.asl_machine.proofs.Invariant.{here_of, instr_here}
+use Rattle.asl_machine.proofs.StepLeaves.{no_depth}
 use Rattle.asl_atomicity.specs.Serial.{heard}
 use Rattle.asl_atomicity.proofs.Swapping.{CanSwap, InSection, EntryUnseen, EntriesUnseen}
 use Rattle.asl_atomicity.proofs.Uniform.{ObjectsEdit, Same, Stored, Made, put, edit, IsNew, Unseen, Uniform, uniform, place_at}
@@ -89,9 +90,6 @@ same_number objects (Stored v (Ok c)) none = length-written objects c v
 pub not_new : (image : Image) (pc : ℕ) (i : Instr) → slice_get image.code pc ≡ Some i → ((a n c : ℕ) → slice_get image.code pc ≢ Some (instr.New a n c)) → IsNew i → ⊥
 not_new image pc (instr.New a n c) at none k = none a n c at
 not_new image pc i at none k = absurd k
-
-pub no_depth : (d : ℕ) → d ≡ 0 → 0 < d → ⊥
-no_depth d e p = omega arith
 
 pub wrote_by : (image : Image) (x : ℕ) (a : Activity) (i : Instr) (objects : List Object) (h : Holding) (m : Uniform image x a i objects h) → AllPoint objects a.top.regs → WroteBy objects h x a m.on_objects
 wrote_by image x a i objects h m points v c e =

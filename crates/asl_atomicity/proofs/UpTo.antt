@@ -14,13 +14,14 @@ use Rattle.asl_machine.specs.Run.{start_of}
 use Rattle.asl_machine.specs.ComputedRun.{state_after}
 use Rattle.asl_machine.specs.StepFunction.{step_of}
 use Rattle.asl_machine.proofs.Starts.{start_sound, length-first_threads}
+use Rattle.asl_machine.proofs.StepLeaves.{no_depth}
 use Rattle.asl_atomicity.specs.Serial.{heard}
 use Rattle.asl_atomicity.proofs.Computed.{told, outside, AllCount, IsSerial, IsGuarded, FindsRoomInside, HasSerialRunsUpTo}
 use Rattle.asl_atomicity.proofs.Swapping.{Stands, InSection}
 use Rattle.asl_atomicity.specs.Renamed.{Renaming, reply_by, activity_by, thread_by, IsRenamed, Keeps}
-use Rattle.asl_atomicity.proofs.Moves.{state_parts}
+use Rattle.asl_atomicity.proofs.Moves.{state_parts, slot_depth}
 use Rattle.asl_atomicity.proofs.RunParts.{told_parts, counts_split, counts_join, last_of, last_end, serial_split, serial_join, run_stands, run_length, stays, LastAt, find_last, unheard, tell_heard, quiet}
-use Rattle.asl_atomicity.proofs.Serials.{slot_depth, start_outside}
+use Rattle.asl_atomicity.proofs.Serials.{start_outside}
 use Rattle.asl_atomicity.proofs.Renamings.{then_by, none_by, reply_twice, renamed_twice, keeps_twice, each_twice, same_renamed, same_keeps, heard_back, not_full_by}
 use Rattle.asl_atomicity.proofs.Outside.{outside_parts, quiet_outside, inside_outside, outside_more, none_more, outside_by}
 use Rattle.asl_atomicity.proofs.Inserting.{keeps_more, each_told, depth_by, insert}
@@ -203,9 +204,6 @@ module _ (image : Image) (count : ℕ) (fits : FitsImage image) (guarded : IsGua
         ]
       ]
     ]
-      where
-        no_depth : (d : ℕ) → d ≡ 0 → 0 < d → ⊥
-        no_depth d e p = omega arith
 
     all_steps : (rest done : List ℕ) → ((u : ℕ) → depth_at s.threads u ≡ 0) → All (λ t. t < length s.threads) rest → FindsRoomInside image (state_after image s done) rest → From done → From (done ++ rest)
     all_steps [] done fresh all m f = subst From (sym (append-nil done)) f

@@ -1,6 +1,7 @@
 -- Runs whose sections do not interleave, and images whose entries are guarded (docs/ATOMICITY.md). That two-phase sections have
 -- serial runs is K. P. Eswaran, J. N. Gray, R. A. Lorie, I. L. Traiger, "The Notions of Consistency and Predicate Locks in a
--- Database System" (1976); lists that are evaluated at the entry are this project's.
+-- Database System" (1976); lists that are evaluated at the entry are this project's. `HasSerialRuns` is what the clause `atomic` of `infer`
+-- (asl_emitter), `check` and `compile` says, and asl_theorems of journals; tests/serial compares runs with serial ones.
 use Rattle.std.specs.Prelude.{◌≡◌, ◌≢◌, ◌<◌, ◌==◌, ◌⊎◌, ◌++◌, ℕ, Bool, true, List, [], ◌∷◌, map as each, Option, None, Some, All, slice_get, option_and_then, if◌then◌else◌}
 use Rattle.asl_code.specs.declared.image.Image.{Image}
 use Rattle.asl_code.specs.declared.instr.Instr.TheVariants as instr

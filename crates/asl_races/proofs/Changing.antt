@@ -14,13 +14,10 @@ use Rattle.asl_code.specs.declared.value.Effect.TheVariants.{Write}
 use Rattle.asl_code.specs.Fits.{FitsImage}
 use Rattle.asl_machine.specs.declared.reply.Reply.{Reply}
 use Rattle.asl_machine.specs.State.{Object, Activity, Running, State, cell_at, new_object}
-use Rattle.asl_machine.specs.Run.{start_of}
 use Rattle.asl_machine.proofs.Heaps.{tell_cells, written_other}
 use Rattle.asl_machine.proofs.Lists.{get_before, get_last, is_there}
-use Rattle.asl_machine.proofs.Starts.{start_sound}
 use Rattle.asl_races.specs.Races.{Accesses, AccessesChanges}
 use Rattle.asl_races.proofs.Turns.{Turn, Rests, GoesOn, Ends, Enters, Leaves, Wrote, Same, Stored, Made, taken, step_turn}
-use Rattle.asl_races.proofs.Runs.{led_sound}
 
 -- a cell that one object more has changed is one of that object
 made_changes : (objects : List Object) (class cells : ℕ) (cell : Cell) → cell_at (objects ++ new_object class cells ∷ []) cell ≢ cell_at objects cell → (cell.object ≡ length objects) × (cell.offset < cells)
@@ -73,11 +70,11 @@ module _ (image : Image) (s : State) (t : ℕ) (r : Reply) (cell : Cell) where
 
   turn_accesses : (new : State) → Turn image s t r new → cell_at new.objects cell ≢ cell_at s.objects cell → Accesses image (taken s t r) cell Write
   turn_accesses new (Rests e) changed = absurd (changed (ap (λ (z : State). cell_at z.objects cell) e))
-  turn_accesses new (GoesOn a b objects is e deep wrote away) changed = wrote_accesses a objects is wrote (λ same. changed (ap (λ (z : State). cell_at z.objects cell) e ∙ same))
+  turn_accesses new (GoesOn a b objects is e deep wrote) changed = wrote_accesses a objects is wrote (λ same. changed (ap (λ (z : State). cell_at z.objects cell) e ∙ same))
   turn_accesses new (Ends a v is low e) changed = absurd (changed (ap (λ (z : State). cell_at z.objects cell) e))
-  turn_accesses new (Enters a b holding is g e away) changed = absurd (changed (ap (λ (z : State). cell_at z.objects cell) e))
-  turn_accesses new (Leaves a thread is back e away) changed = absurd (changed (ap (λ (z : State). cell_at z.objects cell) e))
+  turn_accesses new (Enters a b holding is g e) changed = absurd (changed (ap (λ (z : State). cell_at z.objects cell) e))
+  turn_accesses new (Leaves a thread is back e) changed = absurd (changed (ap (λ (z : State). cell_at z.objects cell) e))
 
 pub accesses_changes : (image : Image) (count : ℕ) → FitsImage image → AccessesChanges image count
 accesses_changes image count fits run s t r new cell is step changed =
-    turn_accesses image s t r cell new (step_turn image s t r new (led_sound image run (start_of image count) s (start_sound image count fits) is) step) changed
+    turn_accesses image s t r cell new (step_turn image s t r new step) changed

@@ -1,11 +1,10 @@
 -- Threads that know, and marks: what threads that knew have given back. Whoever does not know holds nothing that does not go with a
 -- mark; who is granted something that does not go with one knows from then on.
-use Rattle.std.proofs.Common.{◌≡◌, ℕ, zero, suc, ◌<◌, ◌⊎◌, ◌||◌, ◌==◌, true, false, List, [], ◌∷◌, Some, slice_get, refl, ap, sym, ◌∙◌, subst, inl, inr, arith, eq-eqb, eqb-true}
+use Rattle.std.proofs.Common.{◌≡◌, ℕ, zero, suc, ◌⊎◌, ◌||◌, ◌==◌, true, false, List, [], ◌∷◌, Some, slice_get, refl, ap, sym, ◌∙◌, subst, inl, inr, eq-eqb, eqb-true}
 use Rattle.std.specs.Prelude.{IsTrue}
 use Rattle.std.proofs.lemmas.Bool.{or_right}
 use Rattle.std.proofs.lemmas.Option.{same_Some}
 use Rattle.asl_code.specs.declared.image.Image.{Image}
-use Rattle.asl_code.specs.declared.instr.Instr.TheVariants as instr
 use Rattle.asl_code.specs.declared.value.Cell.{Cell}
 use Rattle.asl_code.specs.declared.value.Effect.{Effect}
 use Rattle.asl_code.specs.declared.value.Effect.TheVariants.{Write}
@@ -13,18 +12,18 @@ use Rattle.asl_mode_lanes.specs.Mode.{AreCompatible}
 use Rattle.asl_lock_forest.specs.declared.node.Node.{Node}
 use Rattle.asl_lock_forest.specs.Node.{IsRooted}
 use Rattle.asl_lock_forest.specs.Holding.{Holding, Request, held, asked, grant, Covers}
+use Rattle.asl_lock_forest.proofs.NinePairs.{no_two_cover, not_both_cover}
 use Rattle.asl_machine.specs.declared.reply.Reply.{Reply}
-use Rattle.asl_machine.specs.declared.reply.Reply.TheVariants as reply
-use Rattle.asl_machine.specs.State.{Running, State}
+use Rattle.asl_machine.specs.State.{State}
 use Rattle.asl_machine.specs.Cover.{is_fresh}
 use Rattle.asl_machine.specs.WellFormed.{SatisfiesInvariant}
-use Rattle.asl_machine.specs.Step.{Line, StepOf, Step}
+use Rattle.asl_machine.specs.Step.{Step}
 use Rattle.asl_machine.proofs.Freshness.{or_split}
 use Rattle.asl_machine.proofs.LinesLeft.{request_same}
+use Rattle.asl_machine.proofs.ValueLines.{at_of}
 use Rattle.asl_races.specs.Races.{IsGranted, requested}
-use Rattle.asl_races.proofs.Turns.{taken, begins}
-use Rattle.asl_races.proofs.Lefts.{depth_of, no_two_cover}
-use Rattle.asl_races.proofs.Modes.{Refuses, goes_or_refuses, not_both_cover}
+use Rattle.asl_races.proofs.Turns.{taken, enters_at}
+use Rattle.asl_races.proofs.Modes.{Refuses, goes_or_refuses}
 
 -- what a thread has given back, by a step before which this was held
 pub record Mark : Type 0 where
@@ -74,21 +73,11 @@ tell_knows knowers u = elim (is_fresh knowers u) as (λ b. is_fresh knowers u �
 
 -- ---- a granted request
 
-no_depth : (d : ℕ) → d ≡ 0 → 0 < d → ⊥
-no_depth d e p = omega arith
-
 -- the holding after a grant
 pub granted_is : (image : Image) (s : State) (t : ℕ) (r : Reply) (new : State) → Step image s t r new → (g : IsGranted image (taken s t r)) → new.holding ≡ grant s.holding t (requested image (taken s t r) g)
 granted_is image s t r new step g =
-    let a = g.is_at.activity in
-    let h : StepOf image s t (Some (Running a)) r new = subst (λ o. StepOf image s t o r new) g.is_at.runs step in
-    let same : h.0 ≡ instr.Acquire g.list = same_Some _ _ (sym h.1 ∙ g.is_at.at) in
-    let line : Line (begins image s t a) (instr.Acquire g.list) r new = subst (λ i. Line (begins image s t a) i r new) same h.2 in
-    let ran : Line (begins image s t a) (instr.Acquire g.list) reply.Ran new = subst (λ q. Line (begins image s t a) (instr.Acquire g.list) q new) g.ran line in
-    elim ran [
-      | inl nests ↦ absurd (no_depth a.depth (sym (depth_of s t a g.is_at.runs) ∙ g.outside) nests.inside)
-      | inr e ↦ ap (λ (x : State). x.holding) e.goes_on ∙ ap (grant s.holding t) (sym (request_same (begins image s t a) g.list e.request e.asks))
-    ]
+    let e = enters_at image s t r new step g in
+    ap (λ (x : State). x.holding) e.goes_on ∙ ap (grant s.holding t) (sym (request_same (at_of image s t g.is_at.activity) g.list e.request e.asks))
 
 -- a request goes with all marks, or is refused by one
 abbrev pub IsRefusedBy : List Mark → Request → Type 0

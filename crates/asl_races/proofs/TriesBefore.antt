@@ -22,13 +22,15 @@ use Rattle.asl_machine.specs.Run.{start_of}
 use Rattle.asl_machine.specs.WellFormed.{SatisfiesInvariant}
 use Rattle.asl_machine.specs.Step.{Step}
 use Rattle.asl_machine.proofs.Freshness.{or_split}
+use Rattle.asl_machine.proofs.StepLeaves.{listed_fresh, same_class, same_held}
+use Rattle.asl_machine.proofs.Heaps.{class_within}
 use Rattle.asl_atomicity.specs.Serial.{TakenStep, IsRun}
 use Rattle.asl_races.specs.Visits.{visit}
 use Rattle.asl_races.specs.Races.{Accesses, IsStepOf, IsGranted, InOrder, requested}
 use Rattle.asl_races.specs.Tries.{TriesToRead, LooksAt, HappensBeforeWithTries, Happens, Sees, Between}
 use Rattle.asl_races.proofs.Turns.{taken, step_turn}
-use Rattle.asl_races.proofs.Accessed.{accessed, listed_fresh}
-use Rattle.asl_races.proofs.Lefts.{class_within, same_class, same_held, holds_no_more}
+use Rattle.asl_races.proofs.Accessed.{accessed}
+use Rattle.asl_races.proofs.Lefts.{holds_no_more}
 use Rattle.asl_races.proofs.Having.{fresh_before}
 use Rattle.asl_races.proofs.Entering.{stands_at}
 use Rattle.asl_races.proofs.Visiting.{visited_away, some_class}
@@ -83,7 +85,7 @@ module _ (image : Image) (run : List TakenStep) (i : ℕ) (one : TakenStep) (at 
       | inl same ↦
           let own : Step image s t r new = subst (λ y. Step image s y r new) (sym same.1) step in
           let here_own : slice_get run n ≡ Some (taken s t r) = here ∙ ap (λ y. Some (taken s y r)) (sym same.1) in
-          elim (holds_no_more image s t r new (step_turn image s t r new sound own)) [
+          elim (holds_no_more image s t r new (step_turn image s t r new own)) [
             | inl g ↦ granted_seen n s r new k.past here_own sound own g w holds
             | inr no_more ↦ elim no_more [
               | inl still ↦ seen_still n (k.seen w (subst (AtMost X) (still (node_at cell class w)) holds))

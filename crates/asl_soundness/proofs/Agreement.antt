@@ -23,13 +23,13 @@ use Rattle.asl_machine.proofs.Heaps.{class_of-written}
 use Rattle.asl_machine.proofs.Following.{Here}
 use Rattle.asl_machine.proofs.Placing.{function_is}
 use Rattle.asl_machine.proofs.ValueLines.{at_of}
+use Rattle.asl_machine.proofs.LineKinds.{line_fails}
 use Rattle.asl_soundness.specs.Coded.{classed, IsImageOf}
 use Rattle.asl_soundness.specs.Agrees.{FrameAgrees, FramesAgree, ThreadAgrees, Agrees}
 use Rattle.asl_soundness.proofs.Protecting.{get_within}
 use Rattle.asl_soundness.proofs.Arguments.{passed}
 use Rattle.asl_soundness.proofs.Standing.{body_of, call_at, globals_agree}
 use Rattle.asl_soundness.proofs.Agreeing.{points_given, Grows, frames_grown, frame_set, agrees_after, stored_agrees, made_grows, made_agrees, made_class}
-use Rattle.asl_soundness.proofs.Faults.{line_fails}
 
 module _ (l : Lowered) (c : Classed) (image : Image) (made : IsImageOf l c image) (s : State) (t : ℕ) (a : Activity) (h : Here image s t a) (agrees : Agrees c s)
     (sites : (pc a n site : ℕ) → slice_get l.code pc ≡ Some (instr.New a n site) → site < length c.sites) where
@@ -114,13 +114,19 @@ module _ (l : Lowered) (c : Classed) (image : Image) (made : IsImageOf l c image
   pub line_agrees : (i : Instr) (r : Reply) (new : State) → slice_get l.code a.top.pc ≡ Some i → slice_get image.code a.top.pc ≡ Some (classed c i) → IsLegalAt l c a.top.function i → Line (at_of image s t a) (classed c i) r new → Agrees c new
   line_agrees (instr.SetInt x n) reply.Ran new at here legal e = sets x (Int n) new tt e
   line_agrees (instr.SetNull x) reply.Ran new at here legal e = sets x Null new tt e
-  line_agrees (instr.Move x y) reply.Ran new at here legal e = sets x e.value new (points_given (class_of s.objects) (to c a.top.function y) (to c a.top.function x) e.value legal (own.0 y e.value e.reads_value)) e.sets
-  line_agrees (instr.Add x y z) reply.Ran new at here legal e = sets x _ new tt e.sets
-  line_agrees (instr.Subtract x y z) reply.Ran new at here legal e = sets x _ new tt e.sets
-  line_agrees (instr.LessThan x y z) reply.Ran new at here legal (inl e) = sets x _ new tt e.sets
-  line_agrees (instr.LessThan x y z) reply.Ran new at here legal (inr e) = sets x _ new tt e.sets
-  line_agrees (instr.Equals x y z) reply.Ran new at here legal (inl e) = sets x _ new tt e.sets
-  line_agrees (instr.Equals x y z) reply.Ran new at here legal (inr e) = sets x _ new tt e.sets
+  line_agrees (instr.Move x y) reply.Ran new at here legal e = sets x e.0 new (points_given (class_of s.objects) (to c a.top.function y) (to c a.top.function x) e.0 legal (own.0 y e.0 e.1)) e.2
+  line_agrees (instr.Add x y z) reply.Ran new at here legal e = sets x _ new tt e.4
+  line_agrees (instr.Subtract x y z) reply.Ran new at here legal e = sets x _ new tt e.4
+  line_agrees (instr.LessThan x y z) reply.Ran new at here legal e =
+      elim e.4 [
+        | inl h ↦ sets x _ new tt h.1
+        | inr h ↦ sets x _ new tt h.1
+      ]
+  line_agrees (instr.Equals x y z) reply.Ran new at here legal e =
+      elim e.4 [
+        | inl h ↦ sets x _ new tt h.1
+        | inr h ↦ sets x _ new tt h.1
+      ]
   line_agrees (instr.GlobalAddress x g) reply.Ran new at here legal e =
       sets x (Addr g 0) new (globes x g (h.sound.fits.instr_fits a.top.function a.top.pc h.placed.function (instr.GlobalAddress x g) h.placed.lies here).1.0 legal) e
   line_agrees (instr.FieldAddress x y d) reply.Ran new at here legal e = sets x _ new (fields x y e.cell (e.cell.offset + d) legal e.reads_address) e.sets
@@ -130,8 +136,11 @@ module _ (l : Lowered) (c : Classed) (image : Image) (made : IsImageOf l c image
       let q = get_within c.sites site (sites a.top.pc x n site at) in
       makes x n _ new (legal q.0 q.1 ∙ sym (ap (λ o. Some (unwrap_or o 0)) q.1)) e
   line_agrees (instr.Jump target) reply.Ran new at here legal e = keeps _ s.holding new own e
-  line_agrees (instr.JumpIfZero x target) reply.Ran new at here legal (inl e) = keeps _ s.holding new own e.goes_to
-  line_agrees (instr.JumpIfZero x target) reply.Ran new at here legal (inr e) = keeps _ s.holding new own e.goes_on
+  line_agrees (instr.JumpIfZero x target) reply.Ran new at here legal e =
+      elim e.2 [
+        | inl h ↦ keeps _ s.holding new own h.1
+        | inr h ↦ keeps _ s.holding new own h.1
+      ]
   line_agrees (instr.Call x first g) reply.Ran new at here legal e =
       let callee = ap (λ (f : Function). first_registers (values_from a.top.regs first f.params) f.regs) (function_is image g e.callee e.is) in
       keeps _ s.holding new
@@ -139,7 +148,7 @@ module _ (l : Lowered) (c : Classed) (image : Image) (made : IsImageOf l c image
   line_agrees (instr.Return from) reply.Ran new at here legal (inl e) =
       keeps _ s.holding new (returned_agrees from e.to e.caller e.others e.value at e.waiting e.awaits e.reads_value) e.returns
   line_agrees (instr.Return from) reply.Ran new at here legal (inr e) = ended (Done e.value) s.holding new refl e.ends
-  line_agrees (instr.Output from) (reply.Out value) new at here legal e = keeps _ s.holding new own e.goes_on
+  line_agrees (instr.Output from) (reply.Out value) new at here legal e = keeps _ s.holding new own e.1
   line_agrees (instr.Acquire list) reply.Ran new at here legal (inl e) = keeps _ s.holding new own e.goes_on
   line_agrees (instr.Acquire list) reply.Ran new at here legal (inr e) = keeps _ _ new own e.goes_on
   line_agrees (instr.Acquire list) reply.Blocked new at here legal e = subst (Agrees c) (sym e.same) agrees

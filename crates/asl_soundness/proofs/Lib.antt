@@ -5,7 +5,6 @@ pub mod Standing
 pub mod Stepping
 pub mod Arguments
 pub mod Owning
-pub mod Faults
 -- the first pass: states agree with the classes, and threads are nested
 pub mod Agreeing
 pub mod Agreement

@@ -29,13 +29,13 @@ use Rattle.asl_machine.specs.StepFunction.{step_of}
 use Rattle.asl_machine.proofs.Freshness.{made_keeps, made_new}
 use Rattle.asl_machine.proofs.Following.{Here}
 use Rattle.asl_machine.proofs.ValueLines.{at_of}
+use Rattle.asl_machine.proofs.LineKinds.{line_fails}
 use Rattle.asl_soundness.specs.Coded.{classed, IsImageOf}
 use Rattle.asl_soundness.specs.Agrees.{Agrees}
 use Rattle.asl_soundness.specs.Protected.{Protected, BaseThere, LockThere}
 use Rattle.asl_soundness.proofs.Protecting.{Stands, AllProtected, get_some}
 use Rattle.asl_soundness.proofs.Standing.{globals_agree, globals_point}
 use Rattle.asl_soundness.proofs.Owning.{runs_on, ends_on}
-use Rattle.asl_soundness.proofs.Faults.{line_fails}
 use Rattle.asl_soundness.proofs.Rows.{number_row, move_row, global_row, load_row, field_row}
 use Rattle.asl_soundness.proofs.Stored.{store_row}
 use Rattle.asl_soundness.proofs.Grown.{new_row}
@@ -120,14 +120,20 @@ module _ (l : Lowered) (c : Classed) (stores : ℕ → ℕ → Bool) (k_limit : 
   pub line_links : (i : Instr) (r : Reply) (new : State) → FitsInstr image a.top.function h.placed.function (classed c i) → Agrees c new → AllProtected k t s.objects a.top.regs (link v i n) → Line (at_of image s t a) (classed c i) r new → IsBehind new
   line_links (instr.SetInt x m) reply.Ran new fits agrees all e = number (instr.SetInt x m) x (Int m) new all tt (lt_of x fits.0) refl (λ d effect. refl) e
   line_links (instr.SetNull x) reply.Ran new fits agrees all e = number (instr.SetNull x) x Null new all tt (lt_of x fits.0) refl (λ d effect. refl) e
-  line_links (instr.Add x y z) reply.Ran new fits agrees all e = number (instr.Add x y z) x _ new all tt (lt_of x fits.0) refl (λ d effect. refl) e.sets
-  line_links (instr.Subtract x y z) reply.Ran new fits agrees all e = number (instr.Subtract x y z) x _ new all tt (lt_of x fits.0) refl (λ d effect. refl) e.sets
-  line_links (instr.LessThan x y z) reply.Ran new fits agrees all (inl e) = number (instr.LessThan x y z) x _ new all tt (lt_of x fits.0) refl (λ d effect. refl) e.sets
-  line_links (instr.LessThan x y z) reply.Ran new fits agrees all (inr e) = number (instr.LessThan x y z) x _ new all tt (lt_of x fits.0) refl (λ d effect. refl) e.sets
-  line_links (instr.Equals x y z) reply.Ran new fits agrees all (inl e) = number (instr.Equals x y z) x _ new all tt (lt_of x fits.0) refl (λ d effect. refl) e.sets
-  line_links (instr.Equals x y z) reply.Ran new fits agrees all (inr e) = number (instr.Equals x y z) x _ new all tt (lt_of x fits.0) refl (λ d effect. refl) e.sets
+  line_links (instr.Add x y z) reply.Ran new fits agrees all e = number (instr.Add x y z) x _ new all tt (lt_of x fits.0) refl (λ d effect. refl) e.4
+  line_links (instr.Subtract x y z) reply.Ran new fits agrees all e = number (instr.Subtract x y z) x _ new all tt (lt_of x fits.0) refl (λ d effect. refl) e.4
+  line_links (instr.LessThan x y z) reply.Ran new fits agrees all e =
+      elim e.4 [
+        | inl h ↦ number (instr.LessThan x y z) x _ new all tt (lt_of x fits.0) refl (λ d effect. refl) h.1
+        | inr h ↦ number (instr.LessThan x y z) x _ new all tt (lt_of x fits.0) refl (λ d effect. refl) h.1
+      ]
+  line_links (instr.Equals x y z) reply.Ran new fits agrees all e =
+      elim e.4 [
+        | inl h ↦ number (instr.Equals x y z) x _ new all tt (lt_of x fits.0) refl (λ d effect. refl) h.1
+        | inr h ↦ number (instr.Equals x y z) x _ new all tt (lt_of x fits.0) refl (λ d effect. refl) h.1
+      ]
   line_links (instr.Move x y) reply.Ran new fits agrees all e =
-      linked (instr.Move x y) a.depth (advanced_with x e.value a.top) s.objects new all tt (λ d effect known p. move_row k t s.objects a.top.regs x (lt_of x fits.0) d effect y e.value e.reads_value p) e.sets
+      linked (instr.Move x y) a.depth (advanced_with x e.0 a.top) s.objects new all tt (λ d effect known p. move_row k t s.objects a.top.regs x (lt_of x fits.0) d effect y e.0 e.1 p) e.2
   line_links (instr.GlobalAddress x g) reply.Ran new fits agrees all e =
       linked (instr.GlobalAddress x g) a.depth (advanced_with x (Addr g 0) a.top) s.objects new all (subst (λ xs. g < length xs) made.globals fits.1.0) (λ d effect known p. global_row k t s.objects a.top.regs x (lt_of x fits.0) d effect g p) e
   line_links (instr.FieldAddress x y m) reply.Ran new fits agrees all e =
@@ -138,9 +144,12 @@ module _ (l : Lowered) (c : Classed) (stores : ℕ → ℕ → Bool) (k_limit : 
   line_links (instr.Store x y) reply.Ran new fits agrees all e = stored x y new all agrees e
   line_links (instr.New x m site) reply.Ran new fits agrees all e = makes x m site new all (lt_of x fits.0) e
   line_links (instr.Jump target) reply.Ran new fits agrees all e = passes (instr.Jump target) a.depth target new all tt (λ d effect. refl) e
-  line_links (instr.JumpIfZero x target) reply.Ran new fits agrees all (inl e) = passes (instr.JumpIfZero x target) a.depth target new all tt (λ d effect. refl) e.goes_to
-  line_links (instr.JumpIfZero x target) reply.Ran new fits agrees all (inr e) = passes (instr.JumpIfZero x target) a.depth (a.top.pc + 1) new all tt (λ d effect. refl) e.goes_on
-  line_links (instr.Output from) (reply.Out value) new fits agrees all e = passes (instr.Output from) a.depth (a.top.pc + 1) new all tt (λ d effect. refl) e.goes_on
+  line_links (instr.JumpIfZero x target) reply.Ran new fits agrees all e =
+      elim e.2 [
+        | inl h ↦ passes (instr.JumpIfZero x target) a.depth target new all tt (λ d effect. refl) h.1
+        | inr h ↦ passes (instr.JumpIfZero x target) a.depth (a.top.pc + 1) new all tt (λ d effect. refl) h.1
+      ]
+  line_links (instr.Output from) (reply.Out value) new fits agrees all e = passes (instr.Output from) a.depth (a.top.pc + 1) new all tt (λ d effect. refl) e.1
   line_links (instr.Call x first g) reply.Ran new fits agrees all e = runs _ s.objects s.holding new (λ deep same. absurd (one_more_frame _ a.below same)) e.calls
   line_links (instr.Return from) reply.Ran new fits agrees all (inl e) = runs _ s.objects s.holding new (λ deep same. absurd (one_more_frame e.caller e.others (sym (same ∙ e.waiting)))) e.returns
   line_links (instr.Return from) reply.Ran new fits agrees all (inr e) = ends (Done e.value) s.holding new refl e.ends

@@ -3,7 +3,6 @@ use Rattle.std.proofs.Common.{ℕ, Bool}
 use Rattle.asl_code.specs.declared.image.Image.{Image}
 use Rattle.asl_lower.specs.Lowered.{Lowered}
 use Rattle.asl_lower.specs.LegalLowering.{IsLegalLowering}
-use Rattle.asl_lower.proofs.Layouts.{kept_layout}
 use Rattle.asl_points_to.specs.Classes.{Classed}
 use Rattle.asl_backward_flow.specs.Needed.{Needed}
 use Rattle.asl_backward_flow.proofs.Leasts.{needed_closed}
@@ -19,7 +18,7 @@ needed_analysed l c stores k_limit image kept made told lists = record {
   kept = kept;
   made = made;
   closed = needed_closed l c stores k_limit;
-  based = needed_there l c stores k_limit (kept_layout l kept) made.legal;
+  based = needed_there l c stores k_limit kept.layout made.legal;
   told = told;
   lists = lists;
 }

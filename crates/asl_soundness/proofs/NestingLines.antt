@@ -16,11 +16,11 @@ use Rattle.asl_machine.specs.State.{Object, Frame, Activity, Thread, Running, Do
 use Rattle.asl_machine.specs.Step.{Line, after, advanced, advanced_with, going_on, with_fresh}
 use Rattle.asl_machine.proofs.Following.{Here}
 use Rattle.asl_machine.proofs.ValueLines.{at_of}
+use Rattle.asl_machine.proofs.LineKinds.{line_fails}
 use Rattle.asl_soundness.specs.Coded.{classed, IsImageOf}
 use Rattle.asl_soundness.specs.Nested.{IsNestedAt}
 use Rattle.asl_soundness.proofs.Standing.{body_of}
 use Rattle.asl_soundness.proofs.Owning.{IsOwn, runs_on, ends_on}
-use Rattle.asl_soundness.proofs.Faults.{line_fails}
 use Rattle.asl_soundness.proofs.Nesting.{plain, acquires, releases, returns, calls}
 
 -- the place after, as the machine writes it
@@ -50,13 +50,19 @@ module _ (l : Lowered) (nests : IsNested l) (c : Classed) (image : Image) (made 
   pub line_nested : (i : Instr) (r : Reply) (new : State) → slice_get l.code a.top.pc ≡ Some i → Line (at_of image s t a) (classed c i) r new → IsOwnNested l t new
   line_nested (instr.SetInt x n) reply.Ran new at e = on _ _ s.objects new at refl (next_is a.top.pc) (λ xs. refl) e
   line_nested (instr.SetNull x) reply.Ran new at e = on _ _ s.objects new at refl (next_is a.top.pc) (λ xs. refl) e
-  line_nested (instr.Move x y) reply.Ran new at e = on _ _ s.objects new at refl (next_is a.top.pc) (λ xs. refl) e.sets
-  line_nested (instr.Add x y z) reply.Ran new at e = on _ _ s.objects new at refl (next_is a.top.pc) (λ xs. refl) e.sets
-  line_nested (instr.Subtract x y z) reply.Ran new at e = on _ _ s.objects new at refl (next_is a.top.pc) (λ xs. refl) e.sets
-  line_nested (instr.LessThan x y z) reply.Ran new at (inl e) = on _ _ s.objects new at refl (next_is a.top.pc) (λ xs. refl) e.sets
-  line_nested (instr.LessThan x y z) reply.Ran new at (inr e) = on _ _ s.objects new at refl (next_is a.top.pc) (λ xs. refl) e.sets
-  line_nested (instr.Equals x y z) reply.Ran new at (inl e) = on _ _ s.objects new at refl (next_is a.top.pc) (λ xs. refl) e.sets
-  line_nested (instr.Equals x y z) reply.Ran new at (inr e) = on _ _ s.objects new at refl (next_is a.top.pc) (λ xs. refl) e.sets
+  line_nested (instr.Move x y) reply.Ran new at e = on _ _ s.objects new at refl (next_is a.top.pc) (λ xs. refl) e.2
+  line_nested (instr.Add x y z) reply.Ran new at e = on _ _ s.objects new at refl (next_is a.top.pc) (λ xs. refl) e.4
+  line_nested (instr.Subtract x y z) reply.Ran new at e = on _ _ s.objects new at refl (next_is a.top.pc) (λ xs. refl) e.4
+  line_nested (instr.LessThan x y z) reply.Ran new at e =
+      elim e.4 [
+        | inl h ↦ on _ _ s.objects new at refl (next_is a.top.pc) (λ xs. refl) h.1
+        | inr h ↦ on _ _ s.objects new at refl (next_is a.top.pc) (λ xs. refl) h.1
+      ]
+  line_nested (instr.Equals x y z) reply.Ran new at e =
+      elim e.4 [
+        | inl h ↦ on _ _ s.objects new at refl (next_is a.top.pc) (λ xs. refl) h.1
+        | inr h ↦ on _ _ s.objects new at refl (next_is a.top.pc) (λ xs. refl) h.1
+      ]
   line_nested (instr.GlobalAddress x g) reply.Ran new at e = on _ _ s.objects new at refl (next_is a.top.pc) (λ xs. refl) e
   line_nested (instr.FieldAddress x y n) reply.Ran new at e = on _ _ s.objects new at refl (next_is a.top.pc) (λ xs. refl) e.sets
   line_nested (instr.Load x y) reply.Ran new at e = on _ _ s.objects new at refl (next_is a.top.pc) (λ xs. refl) e.sets
@@ -65,9 +71,12 @@ module _ (l : Lowered) (nests : IsNested l) (c : Classed) (image : Image) (made 
       runs _ _ s.holding new
       (renested l (going_on a a.depth (advanced_with x (Addr (length s.objects) 0) a.top)) _ (plain l nests a nested (instr.New x n site) (advanced_with x (Addr (length s.objects) 0) a.top) refl at (next_is a.top.pc) (λ xs. refl))) e.makes
   line_nested (instr.Jump target) reply.Ran new at e = on _ _ s.objects new at refl refl (λ xs. refl) e
-  line_nested (instr.JumpIfZero x target) reply.Ran new at (inl e) = on _ _ s.objects new at refl (inl refl) (λ xs. refl) e.goes_to
-  line_nested (instr.JumpIfZero x target) reply.Ran new at (inr e) = on _ _ s.objects new at refl (inr (next_is a.top.pc)) (λ xs. refl) e.goes_on
-  line_nested (instr.Output from) (reply.Out value) new at e = on _ _ s.objects new at refl (next_is a.top.pc) (λ xs. refl) e.goes_on
+  line_nested (instr.JumpIfZero x target) reply.Ran new at e =
+      elim e.2 [
+        | inl h ↦ on _ _ s.objects new at refl (inl refl) (λ xs. refl) h.1
+        | inr h ↦ on _ _ s.objects new at refl (inr (next_is a.top.pc)) (λ xs. refl) h.1
+      ]
+  line_nested (instr.Output from) (reply.Out value) new at e = on _ _ s.objects new at refl (next_is a.top.pc) (λ xs. refl) e.1
   line_nested (instr.Call x first g) reply.Ran new at e =
       runs _ s.objects s.holding new
       (calls l nests a nested x first g (a.top.pc + 1) e.callee _ at (next_is a.top.pc) (body_of l c image made a.top.function a.top.pc h.placed.function h.placed.lies)

@@ -1,14 +1,12 @@
 -- What a line of the table changes for the other threads: nothing, one cell that its thread may write, or objects that are
 -- added; and so each other thread keeps what it wants.
-use Rattle.std.proofs.Common.{◌≡◌, ◌≢◌, ℕ, ◌++◌, Bool, List, [], ◌∷◌, Some, refl, ap, sym, ◌∙◌, subst, inl, inr}
-use Rattle.std.specs.Prelude.{unwrap_or, slice_get}
+use Rattle.std.proofs.Common.{◌≡◌, ◌≢◌, ℕ, ◌++◌, Bool, List, [], ◌∷◌, Some, refl, ap, sym, ◌∙◌, subst}
 use Rattle.asl_code.specs.declared.image.Image.{Image}
 use Rattle.asl_code.specs.declared.value.Value.{Value}
 use Rattle.asl_code.specs.declared.value.Value.TheVariants.{Addr}
 use Rattle.asl_code.specs.declared.value.Cell.{Cell}
 use Rattle.asl_code.specs.declared.value.Effect.TheVariants.{Write}
 use Rattle.asl_code.specs.declared.instr.Instr.{Instr}
-use Rattle.asl_code.specs.declared.instr.Instr.TheVariants as instr
 use Rattle.asl_mode_lanes.specs.Mode.{AtMost}
 use Rattle.asl_mode_lanes.proofs.ModeLaws.{at_most_refl}
 use Rattle.asl_lock_forest.specs.Holding.{held}
@@ -16,7 +14,6 @@ use Rattle.asl_lower.specs.Lowered.{Lowered}
 use Rattle.asl_points_to.specs.Classes.{Classed}
 use Rattle.asl_backward_flow.specs.Closed.{Family}
 use Rattle.asl_machine.specs.declared.reply.Reply.{Reply}
-use Rattle.asl_machine.specs.declared.reply.Reply.TheVariants as reply
 use Rattle.asl_machine.specs.State.{Object, Activity, State, cell_at, written, new_object, activity_at}
 use Rattle.asl_machine.specs.WellFormed.{IsPlaced}
 use Rattle.asl_machine.specs.Cover.{cover}
@@ -27,13 +24,13 @@ use Rattle.asl_machine.specs.StepFunction.{step_of}
 use Rattle.asl_machine.proofs.Following.{Here}
 use Rattle.asl_machine.proofs.ValueLines.{at_of}
 use Rattle.asl_machine.proofs.Others.{step_leaves_held}
+use Rattle.asl_machine.proofs.LineKinds.{Kind, Setting, Going, Storing, Making, Calling, Returning, Ending, Entering, Waiting, Leaving, Failing, line_kind}
 use Rattle.asl_soundness.specs.Coded.{classed}
 use Rattle.asl_soundness.specs.Agrees.{Agrees}
 use Rattle.asl_soundness.proofs.Analysed.{IsAnalysed}
 use Rattle.asl_soundness.proofs.Having.{HasWanted}
 use Rattle.asl_soundness.proofs.Protecting.{get_some}
 use Rattle.asl_soundness.proofs.Standing.{globals_point}
-use Rattle.asl_soundness.proofs.Faults.{line_fails}
 use Rattle.asl_soundness.proofs.Avoiding.{MayWrite}
 use Rattle.asl_soundness.proofs.Keeping.{NoneShunned, IsAtLeast, more_keeps, stored_keeps, made_keeps, thread_keeps}
 use Rattle.asl_soundness.proofs.Structure.{IsStructured}
@@ -45,45 +42,28 @@ pub data Change (s : State) (t : ℕ) (new : List Object) : Type 0 where
   Adds : (more : List Object) → new ≡ s.objects ++ more → Change s t new
 
 module _ (c : Classed) (image : Image) (s : State) (t : ℕ) (a : Activity) (h : Here image s t a) (agrees : Agrees c s) where
-  stores : (x y : ℕ) (new : State) → Line (at_of image s t a) (instr.Store x y) reply.Ran new → Change s t new.objects
-  stores x y new e =
-      let target = (agrees.threads t a h.is).0 x (Addr e.cell.object e.cell.offset) e.reads_address in
-      let old = get_some (cell_at s.objects e.cell) (h.placed.points x (Addr e.cell.object e.cell.offset) e.reads_address) in
-      let allowed = allowed_covers image s t a Write e.cell target.0 e.allowed target.2 in
-      Writes e.cell e.value (record { at = a; is = h.is; register = x; reads = e.reads_address; old = old.0; there = old.1; hit = target.0; class = target.2; allowed = allowed }) (ap (λ (u : State). u.objects) e.goes_on)
-
   same : (new : State) (u : State) → u.objects ≡ s.objects → new ≡ u → Change s t new.objects
   same new u e f = Same (ap (λ (w : State). w.objects) f ∙ e)
 
+  kind_changes : (i : Instr) (r : Reply) (new : State) → Kind (at_of image s t a) i r new → Change s t new.objects
+  kind_changes i r new (Setting to v comes e) = same new _ refl e
+  kind_changes i r new (Going depth target deep e) = same new _ refl e
+  kind_changes i r new (Storing address from is ran e) =
+      let target = (agrees.threads t a h.is).0 address (Addr e.cell.object e.cell.offset) e.reads_address in
+      let old = get_some (cell_at s.objects e.cell) (h.placed.points address (Addr e.cell.object e.cell.offset) e.reads_address) in
+      let allowed = allowed_covers image s t a Write e.cell target.0 e.allowed target.2 in
+      Writes e.cell e.value (record { at = a; is = h.is; register = address; reads = e.reads_address; old = old.0; there = old.1; hit = target.0; class = target.2; allowed = allowed }) (ap (λ (u : State). u.objects) e.goes_on)
+  kind_changes i r new (Making to cells class is ran e) = Adds (new_object class cells ∷ []) (ap (λ (u : State). u.objects) e.makes)
+  kind_changes i r new (Calling to first g e) = same new _ refl e.calls
+  kind_changes i r new (Returning from e) = same new _ refl e.returns
+  kind_changes i r new (Ending from e) = same new _ refl e.ends
+  kind_changes i r new (Entering list is ran e) = same new _ refl e.goes_on
+  kind_changes i r new (Waiting list e) = same new s refl e.same
+  kind_changes i r new (Leaving is ran e) = same new _ refl e.leaves
+  kind_changes i r new (Failing f is e) = same new _ refl e
+
   pub line_changes : (i : Instr) (r : Reply) (new : State) → Line (at_of image s t a) (classed c i) r new → Change s t new.objects
-  line_changes (instr.SetInt x n) reply.Ran new e = same new _ refl e
-  line_changes (instr.SetNull x) reply.Ran new e = same new _ refl e
-  line_changes (instr.Move x y) reply.Ran new e = same new _ refl e.sets
-  line_changes (instr.Add x y z) reply.Ran new e = same new _ refl e.sets
-  line_changes (instr.Subtract x y z) reply.Ran new e = same new _ refl e.sets
-  line_changes (instr.LessThan x y z) reply.Ran new (inl e) = same new _ refl e.sets
-  line_changes (instr.LessThan x y z) reply.Ran new (inr e) = same new _ refl e.sets
-  line_changes (instr.Equals x y z) reply.Ran new (inl e) = same new _ refl e.sets
-  line_changes (instr.Equals x y z) reply.Ran new (inr e) = same new _ refl e.sets
-  line_changes (instr.GlobalAddress x g) reply.Ran new e = same new _ refl e
-  line_changes (instr.FieldAddress x y n) reply.Ran new e = same new _ refl e.sets
-  line_changes (instr.Load x y) reply.Ran new e = same new _ refl e.sets
-  line_changes (instr.Store x y) reply.Ran new e = stores x y new e
-  line_changes (instr.New x n site) reply.Ran new e = Adds (new_object (unwrap_or (slice_get c.sites site) 0) n ∷ []) (ap (λ (u : State). u.objects) e.makes)
-  line_changes (instr.Jump target) reply.Ran new e = same new _ refl e
-  line_changes (instr.JumpIfZero x target) reply.Ran new (inl e) = same new _ refl e.goes_to
-  line_changes (instr.JumpIfZero x target) reply.Ran new (inr e) = same new _ refl e.goes_on
-  line_changes (instr.Call x first g) reply.Ran new e = same new _ refl e.calls
-  line_changes (instr.Return from) reply.Ran new (inl e) = same new _ refl e.returns
-  line_changes (instr.Return from) reply.Ran new (inr e) = same new _ refl e.ends
-  line_changes (instr.Output from) (reply.Out value) new e = same new _ refl e.goes_on
-  line_changes (instr.Acquire list) reply.Ran new (inl e) = same new _ refl e.goes_on
-  line_changes (instr.Acquire list) reply.Ran new (inr e) = same new _ refl e.goes_on
-  line_changes (instr.Acquire list) reply.Blocked new e = same new s refl e.same
-  line_changes instr.Release reply.Ran new (inl e) = same new _ refl e.goes_on
-  line_changes instr.Release reply.Ran new (inr e) = same new _ refl e.leaves
-  line_changes i (reply.Fault f) new e = same new _ refl (line_fails (at_of image s t a) (classed c i) f new e)
-  line_changes i r new e = absurd e
+  line_changes i r new e = kind_changes (classed c i) r new (line_kind (at_of image s t a) (classed c i) r new e)
 
 -- each other thread keeps what it wants
 module _ (l : Lowered) (c : Classed) (stores : ℕ → ℕ → Bool) (k_limit : ℕ) (K : Family) (image : Image) (A : IsAnalysed l c stores k_limit K image) (s : State) (t : ℕ) (h : IsStructured l c image s) (fr : AreApart image s) where

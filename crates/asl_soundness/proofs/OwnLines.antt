@@ -34,6 +34,7 @@ use Rattle.asl_machine.proofs.Freshness.{made_keeps as made_keeps_fresh, made_ne
 use Rattle.asl_machine.proofs.Placing.{function_is}
 use Rattle.asl_machine.proofs.Readiness.{awaited_below}
 use Rattle.asl_machine.proofs.ValueLines.{at_of}
+use Rattle.asl_machine.proofs.LineKinds.{line_fails}
 use Rattle.asl_soundness.specs.Coded.{classed}
 use Rattle.asl_soundness.specs.Agrees.{Agrees}
 use Rattle.asl_soundness.specs.Nested.{IsNestedAt}
@@ -42,7 +43,6 @@ use Rattle.asl_soundness.proofs.Having.{HasWanted}
 use Rattle.asl_soundness.proofs.Protecting.{AllProtected, get_some}
 use Rattle.asl_soundness.proofs.Standing.{globals_point}
 use Rattle.asl_soundness.proofs.Owning.{runs_on, ends_on}
-use Rattle.asl_soundness.proofs.Faults.{line_fails}
 use Rattle.asl_soundness.proofs.Arguments.{parameter_value, other_value}
 use Rattle.asl_soundness.proofs.Rows.{number_row, move_row, global_row, load_row, field_row}
 use Rattle.asl_soundness.proofs.Stored.{store_row}
@@ -161,14 +161,20 @@ module _ (l : Lowered) (c : Classed) (stores : ℕ → ℕ → Bool) (k_limit : 
       ((b : Activity) → activity_at new.threads t ≡ Some b → IsNestedAt l b) → Line (at_of image s t a) (classed c i) r new → IsOwned new
   line_owned (instr.SetInt x n) reply.Ran new at fits agrees nested e = number _ x (Int n) new at (next_is a.top.pc) refl tt (lt_of x fits.0) refl (λ d effect. refl) e
   line_owned (instr.SetNull x) reply.Ran new at fits agrees nested e = number _ x Null new at (next_is a.top.pc) refl tt (lt_of x fits.0) refl (λ d effect. refl) e
-  line_owned (instr.Add x y z) reply.Ran new at fits agrees nested e = number _ x _ new at (next_is a.top.pc) refl tt (lt_of x fits.0) refl (λ d effect. refl) e.sets
-  line_owned (instr.Subtract x y z) reply.Ran new at fits agrees nested e = number _ x _ new at (next_is a.top.pc) refl tt (lt_of x fits.0) refl (λ d effect. refl) e.sets
-  line_owned (instr.LessThan x y z) reply.Ran new at fits agrees nested (inl e) = number _ x _ new at (next_is a.top.pc) refl tt (lt_of x fits.0) refl (λ d effect. refl) e.sets
-  line_owned (instr.LessThan x y z) reply.Ran new at fits agrees nested (inr e) = number _ x _ new at (next_is a.top.pc) refl tt (lt_of x fits.0) refl (λ d effect. refl) e.sets
-  line_owned (instr.Equals x y z) reply.Ran new at fits agrees nested (inl e) = number _ x _ new at (next_is a.top.pc) refl tt (lt_of x fits.0) refl (λ d effect. refl) e.sets
-  line_owned (instr.Equals x y z) reply.Ran new at fits agrees nested (inr e) = number _ x _ new at (next_is a.top.pc) refl tt (lt_of x fits.0) refl (λ d effect. refl) e.sets
+  line_owned (instr.Add x y z) reply.Ran new at fits agrees nested e = number _ x _ new at (next_is a.top.pc) refl tt (lt_of x fits.0) refl (λ d effect. refl) e.4
+  line_owned (instr.Subtract x y z) reply.Ran new at fits agrees nested e = number _ x _ new at (next_is a.top.pc) refl tt (lt_of x fits.0) refl (λ d effect. refl) e.4
+  line_owned (instr.LessThan x y z) reply.Ran new at fits agrees nested e =
+      elim e.4 [
+        | inl h ↦ number _ x _ new at (next_is a.top.pc) refl tt (lt_of x fits.0) refl (λ d effect. refl) h.1
+        | inr h ↦ number _ x _ new at (next_is a.top.pc) refl tt (lt_of x fits.0) refl (λ d effect. refl) h.1
+      ]
+  line_owned (instr.Equals x y z) reply.Ran new at fits agrees nested e =
+      elim e.4 [
+        | inl h ↦ number _ x _ new at (next_is a.top.pc) refl tt (lt_of x fits.0) refl (λ d effect. refl) h.1
+        | inr h ↦ number _ x _ new at (next_is a.top.pc) refl tt (lt_of x fits.0) refl (λ d effect. refl) h.1
+      ]
   line_owned (instr.Move x y) reply.Ran new at fits agrees nested e =
-      sets (instr.Move x y) x e.value new at (next_is a.top.pc) refl tt (λ d effect there all. move_row (cover s.holding a.fresh) t s.objects a.top.regs x (lt_of x fits.0) d effect y e.value e.reads_value all) e.sets
+      sets (instr.Move x y) x e.0 new at (next_is a.top.pc) refl tt (λ d effect there all. move_row (cover s.holding a.fresh) t s.objects a.top.regs x (lt_of x fits.0) d effect y e.0 e.1 all) e.2
   line_owned (instr.GlobalAddress x g) reply.Ran new at fits agrees nested e =
       sets (instr.GlobalAddress x g) x (Addr g 0) new at (next_is a.top.pc) refl (subst (λ xs. g < length xs) q.program.made.globals fits.1.0) (λ d effect there all. global_row (cover s.holding a.fresh) t s.objects a.top.regs x (lt_of x fits.0) d effect g all) e
   line_owned (instr.FieldAddress x y n) reply.Ran new at fits agrees nested e =
@@ -179,9 +185,12 @@ module _ (l : Lowered) (c : Classed) (stores : ℕ → ℕ → Bool) (k_limit : 
   line_owned (instr.Store x y) reply.Ran new at fits agrees nested e = stored x y new at agrees e
   line_owned (instr.New x n site) reply.Ran new at fits agrees nested e = makes x n site new at nested (lt_of x fits.0) e
   line_owned (instr.Jump target) reply.Ran new at fits agrees nested e = moves (instr.Jump target) target new at refl refl tt (λ d effect. refl) e
-  line_owned (instr.JumpIfZero x target) reply.Ran new at fits agrees nested (inl e) = moves (instr.JumpIfZero x target) target new at (inl refl) refl tt (λ d effect. refl) e.goes_to
-  line_owned (instr.JumpIfZero x target) reply.Ran new at fits agrees nested (inr e) = moves (instr.JumpIfZero x target) (a.top.pc + 1) new at (inr (next_is a.top.pc)) refl tt (λ d effect. refl) e.goes_on
-  line_owned (instr.Output from) (reply.Out value) new at fits agrees nested e = moves (instr.Output from) (a.top.pc + 1) new at (next_is a.top.pc) refl tt (λ d effect. refl) e.goes_on
+  line_owned (instr.JumpIfZero x target) reply.Ran new at fits agrees nested e =
+      elim e.2 [
+        | inl h ↦ moves (instr.JumpIfZero x target) target new at (inl refl) refl tt (λ d effect. refl) h.1
+        | inr h ↦ moves (instr.JumpIfZero x target) (a.top.pc + 1) new at (inr (next_is a.top.pc)) refl tt (λ d effect. refl) h.1
+      ]
+  line_owned (instr.Output from) (reply.Out value) new at fits agrees nested e = moves (instr.Output from) (a.top.pc + 1) new at (next_is a.top.pc) refl tt (λ d effect. refl) e.1
   line_owned (instr.Call x first g) reply.Ran new at fits agrees nested e = called_own x first g new at fits e
   line_owned (instr.Return from) reply.Ran new at fits agrees nested (inl e) = returned_own from new e agrees
   line_owned (instr.Return from) reply.Ran new at fits agrees nested (inr e) = ends (Done e.value) s.holding new refl e.ends

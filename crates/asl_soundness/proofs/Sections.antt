@@ -16,7 +16,6 @@ use Rattle.asl_lower.specs.Lowered.{Lowered}
 use Rattle.asl_lower.specs.OpenSections.{open_at, open_behind, is_acquire, InBody, FlowsTo}
 use Rattle.asl_lower.specs.Regions.{Body, Inside, outermost}
 use Rattle.asl_lower.specs.Facts.{HasLayout}
-use Rattle.asl_lower.proofs.Layouts.{kept_layout}
 use Rattle.asl_lower.proofs.Owner.{from_mapped}
 use Rattle.asl_lower.proofs.Inside.{told}
 use Rattle.asl_points_to.specs.Classes.{Classed}
@@ -60,7 +59,7 @@ module _ (l : Lowered) (c : Classed) (stores : ℕ → ℕ → Bool) (k_limit : 
   }
 
   pub layout : HasLayout l
-  layout = kept_layout l q.program.kept
+  layout = q.program.kept.layout
 
   pub body : InBody l a.top.function a.top.pc
   body = body_of l c image q.program.made a.top.function a.top.pc q.here.placed.function q.here.placed.lies

@@ -4,7 +4,6 @@ use Rattle.std.proofs.lemmas.List.Elements.{All-nil, All-cons}
 use Rattle.asl_code.specs.declared.image.Image.{Image}
 use Rattle.asl_lower.specs.Lowered.{Lowered}
 use Rattle.asl_lower.specs.Facts.{HasLayout}
-use Rattle.asl_lower.proofs.Layouts.{kept_layout}
 use Rattle.asl_points_to.specs.Classes.{Classed}
 use Rattle.asl_backward_flow.specs.Closed.{Family}
 use Rattle.asl_machine.specs.State.{Activity, State, activity_at}
@@ -29,7 +28,7 @@ use Rattle.asl_soundness.proofs.Safety.{line_safe}
 
 module _ (l : Lowered) (c : Classed) (stores : ℕ → ℕ → Bool) (k_limit : ℕ) (K : Family) (image : Image) (A : IsAnalysed l c stores k_limit K image) where
   lay : HasLayout l
-  lay = kept_layout l A.kept
+  lay = A.kept.layout
 
   -- what holds between steps
   pub record IsGood (s : State) : Type 0 where

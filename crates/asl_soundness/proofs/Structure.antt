@@ -105,7 +105,7 @@ module _ (l : Lowered) (c : Classed) (image : Image) (made : IsImageOf l c image
   pub line_entered : (at : At) (i : Instr) (r : Reply) (new : State) → IsNestedAt l at.activity → slice_get l.code at.activity.top.pc ≡ Some i → Line at (classed c i) r new → (r ≢ reply.Fault fault.NoSection) × (r ≢ reply.Fault fault.Open)
   line_entered at instr.Release (reply.Fault fault.NoSection) new nested here e = absurd (never_no_section l lay.nested at.activity nested here e.0)
   line_entered at (instr.Return from) (reply.Fault fault.Open) new nested here e =
-      absurd (let z = never_open l lay.nested at.activity nested from here e.last in let lt = e.inside in omega (arith, z, lt))
+      absurd (let z = never_open l lay.nested at.activity nested from here e.0 in let lt = e.1 in omega (arith, z, lt))
   line_entered at i (reply.Fault fault.NoSection) new nested here e = absurd e
   line_entered at i (reply.Fault fault.Open) new nested here e = absurd e
   line_entered at i r new nested here e = (λ f. cc, λ f. cc)

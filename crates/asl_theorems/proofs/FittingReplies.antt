@@ -77,18 +77,24 @@ module _ (at : At) (v : StateFits at.state) (a : ActivityFits at.activity) (few 
   pub line_fits : (i : Instr) (r : Reply) (new : State) → IsInstr i → Line at i r new → Fine r new
   line_fits (instr.SetInt to number) reply.Ran new is h = (tt, set_state at v a to (Int number) new is.1.0 h)
   line_fits (instr.SetNull to) reply.Ran new is h = (tt, set_state at v a to Null new tt h)
-  line_fits (instr.Move to from) reply.Ran new is h = (tt, set_state at v a to h.value new (a.top from h.value h.reads_value) h.sets)
+  line_fits (instr.Move to from) reply.Ran new is h = (tt, set_state at v a to h.0 new (a.top from h.0 h.1) h.2)
   line_fits (instr.Add to left right) reply.Ran new is h =
-      (tt, set_state at v a to (Int (int_wrapping_add w32 h.x h.y)) new (sum_fits h.x h.y (a.top left (Int h.x) h.reads_left) (a.top right (Int h.y) h.reads_right)) h.sets)
-  line_fits (instr.Add to left right) (reply.Fault fault.BadType) new is h = (tt, fail_state at v a fault.BadType new h.fails)
+      (tt, set_state at v a to (Int (int_wrapping_add w32 h.0 h.1)) new (sum_fits h.0 h.1 (a.top left (Int h.0) h.2) (a.top right (Int h.1) h.3)) h.4)
+  line_fits (instr.Add to left right) (reply.Fault fault.BadType) new is h = (tt, fail_state at v a fault.BadType new h.4.1)
   line_fits (instr.Subtract to left right) reply.Ran new is h =
-      (tt, set_state at v a to (Int (int_wrapping_sub w32 h.x h.y)) new (difference_fits h.x h.y (a.top left (Int h.x) h.reads_left) (a.top right (Int h.y) h.reads_right)) h.sets)
-  line_fits (instr.Subtract to left right) (reply.Fault fault.BadType) new is h = (tt, fail_state at v a fault.BadType new h.fails)
-  line_fits (instr.LessThan to left right) reply.Ran new is (inl h) = (tt, set_state at v a to (Int (pos 1)) new one_fits h.sets)
-  line_fits (instr.LessThan to left right) reply.Ran new is (inr h) = (tt, set_state at v a to (Int (pos 0)) new zero_fits h.sets)
-  line_fits (instr.LessThan to left right) (reply.Fault fault.BadType) new is h = (tt, fail_state at v a fault.BadType new h.fails)
-  line_fits (instr.Equals to left right) reply.Ran new is (inl h) = (tt, set_state at v a to (Int (pos 1)) new one_fits h.sets)
-  line_fits (instr.Equals to left right) reply.Ran new is (inr h) = (tt, set_state at v a to (Int (pos 0)) new zero_fits h.sets)
+      (tt, set_state at v a to (Int (int_wrapping_sub w32 h.0 h.1)) new (difference_fits h.0 h.1 (a.top left (Int h.0) h.2) (a.top right (Int h.1) h.3)) h.4)
+  line_fits (instr.Subtract to left right) (reply.Fault fault.BadType) new is h = (tt, fail_state at v a fault.BadType new h.4.1)
+  line_fits (instr.LessThan to left right) reply.Ran new is h =
+      elim h.4 [
+        | inl branch ↦ (tt, set_state at v a to (Int (pos 1)) new one_fits branch.1)
+        | inr branch ↦ (tt, set_state at v a to (Int (pos 0)) new zero_fits branch.1)
+      ]
+  line_fits (instr.LessThan to left right) (reply.Fault fault.BadType) new is h = (tt, fail_state at v a fault.BadType new h.4.1)
+  line_fits (instr.Equals to left right) reply.Ran new is h =
+      elim h.4 [
+        | inl branch ↦ (tt, set_state at v a to (Int (pos 1)) new one_fits branch.1)
+        | inr branch ↦ (tt, set_state at v a to (Int (pos 0)) new zero_fits branch.1)
+      ]
   line_fits (instr.GlobalAddress to global) reply.Ran new is h = (tt, set_state at v a to (Addr global 0) new tt h)
   line_fits (instr.FieldAddress to from places) reply.Ran new is h = (tt, set_state at v a to (Addr h.cell.object (h.cell.offset + places)) new tt h.sets)
   line_fits (instr.FieldAddress to from places) (reply.Fault fault.Null) new is h = null_fine from new h
@@ -110,8 +116,11 @@ module _ (at : At) (v : StateFits at.state) (a : ActivityFits at.activity) (few 
   )
   line_fits (instr.New to cells class) (reply.Fault fault.Full) new is h = (tt, fail_state at v a fault.Full new h.1)
   line_fits (instr.Jump target) reply.Ran new is h = (tt, to_state at v a target new h)
-  line_fits (instr.JumpIfZero test target) reply.Ran new is (inl h) = (tt, to_state at v a target new h.goes_to)
-  line_fits (instr.JumpIfZero test target) reply.Ran new is (inr h) = (tt, on_state at v a at.activity.depth at.state.objects at.state.holding new v.objects h.goes_on)
+  line_fits (instr.JumpIfZero test target) reply.Ran new is h =
+      elim h.2 [
+        | inl branch ↦ (tt, to_state at v a target new branch.1)
+        | inr branch ↦ (tt, on_state at v a at.activity.depth at.state.objects at.state.holding new v.objects branch.1)
+      ]
   line_fits (instr.Call to first function) reply.Ran new is h = (
     tt,
     subst StateFits (sym h.calls) (thread_set at.state at.thread (Running (called at.image at.activity to first function)) at.state.objects at.state.holding v v.objects (called_fits at.image at.activity to first function a)),
@@ -124,10 +133,10 @@ module _ (at : At) (v : StateFits at.state) (a : ActivityFits at.activity) (few 
             (record { top = set_fits h.caller.regs h.to h.value below.0 (a.top from h.value h.reads_value); below = below.1 })),
       )
   line_fits (instr.Return from) reply.Ran new is (inr h) = (tt, subst StateFits (sym h.ends) (thread_set at.state at.thread (Done h.value) at.state.objects at.state.holding v v.objects tt))
-  line_fits (instr.Return from) (reply.Fault fault.Open) new is h = (tt, fail_state at v a fault.Open new h.fails)
+  line_fits (instr.Return from) (reply.Fault fault.Open) new is h = (tt, fail_state at v a fault.Open new h.2)
   line_fits (instr.Output from) (reply.Out value) new is h = (
-    value_fits at.state.objects value v.objects few (points from value h.reads_value) (a.top from value h.reads_value),
-    on_state at v a at.activity.depth at.state.objects at.state.holding new v.objects h.goes_on,
+    value_fits at.state.objects value v.objects few (points from value h.0) (a.top from value h.0),
+    on_state at v a at.activity.depth at.state.objects at.state.holding new v.objects h.1,
   )
   line_fits (instr.Acquire list) reply.Ran new is (inl h) = (tt, on_state at v a (at.activity.depth + 1) at.state.objects at.state.holding new v.objects h.goes_on)
   line_fits (instr.Acquire list) reply.Ran new is (inr h) = (tt, on_state at v a 1 at.state.objects _ new v.objects h.goes_on)

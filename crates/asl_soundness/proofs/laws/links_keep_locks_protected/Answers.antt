@@ -1,5 +1,4 @@
 use Rattle.std.proofs.Common.{◌≡◌, Some}
-use Rattle.asl_lower.proofs.Layouts.{kept_layout}
 use Rattle.asl_machine.specs.Cover.{cover}
 use Rattle.asl_machine.specs.State.{activity_at}
 use Rattle.asl_machine.proofs.Lines.{of_line}
@@ -16,7 +15,7 @@ returns c = record {
   own = λ l d stores k_limit image count s new t reply a b i n kept made r step is at now inside deep same there all.
       (let q = kept_structured l d image count s kept made r in
       of_line image s t (λ answer u. activity_at u.threads t ≡ Some b → Protected (cover u.holding b.fresh) t u.objects b.top.regs n)
-      (λ e. step_links l d stores k_limit image made s t a b i n q (step_structured l d image made (kept_layout l kept) s t q).agrees is at e inside deep same there all) reply new step now);
+      (λ e. step_links l d stores k_limit image made s t a b i n q (step_structured l d image made kept.layout s t q).agrees is at e inside deep same there all) reply new step now);
   others = λ l d image count s new t u reply a place f n kept made r step is at apart there read p.
       of_line image s u (λ answer v. Protected (cover v.holding a.fresh) t v.objects f.regs n)
       (others_leave l d image made s (kept_structured l d image count s kept made r) (reached_apart image count s made.fits r) t u a apart is place f n at there read p) reply new step;

@@ -1,5 +1,4 @@
 use Rattle.std.proofs.Common.{◌≢◌}
-use Rattle.asl_lower.proofs.Layouts.{kept_layout}
 use Rattle.asl_machine.specs.declared.fault.Fault.TheVariants as fault
 use Rattle.asl_machine.specs.declared.reply.Reply.TheVariants as reply
 use Rattle.asl_machine.proofs.Lines.{of_line}
@@ -10,4 +9,4 @@ use Rattle.asl_soundness.proofs.structure_laws.sections_are_entered_and_left.Goa
 pub returns : goal.returns
 returns c = λ l d image count s new t answer kept made r step.
     of_line image s t (λ q u. (q ≢ reply.Fault fault.NoSection) × (q ≢ reply.Fault fault.Open))
-    (step_entered l d image made (kept_layout l kept) s t (kept_structured l d image count s kept made r)) answer new step
+    (step_entered l d image made kept.layout s t (kept_structured l d image count s kept made r)) answer new step
