@@ -24,10 +24,11 @@ use Rattle.asl_emitter.proofs.Covering.{fitted_covers}
 use Rattle.asl_emitter.proofs.Guarding.{expression_given}
 use Rattle.asl_emitter.proofs.Needing.{needed_class}
 use Rattle.asl_emitter.proofs.Outcomes.{accepted}
+use Rattle.asl_check.specs.declared.code_difference.CodeDifference.{CodeDifference}
 use Rattle.asl_check.specs.declared.fault.CheckFault.{CheckFault}
 use Rattle.asl_check.specs.declared.fault.CheckFault.TheVariants.{Infer, OtherCode, Uncovered, Unguarded}
 use Rattle.asl_soundness.specs.Safe.{ListsCover}
-use Rattle.asl_check.specs.Checked.{IsUnderOne, IsCodeOf, IsOtherCode, AreGuarded, IsFirstLacking, IsFirstOpen}
+use Rattle.asl_check.specs.Checked.{IsUnderOne, IsCodeOf, IsOtherCode, IsOtherPlace, AreGuarded, IsFirstLacking, IsFirstOpen}
 use Rattle.asl_check.specs.Refused.{IsChecked, IsRefusedLists, IsOutOfMemory}
 
 -- what holds of one analysis of a tree holds of each
@@ -84,9 +85,12 @@ inferred_checked is k k_limit image lowers kept accept h =
 
 -- ---- a program that is checked has no fault
 
-pub not_other : (l : Lowered) (c : Classed) (image : Image) (pc : ℕ) → IsCodeOf l c image → IsOtherCode l c image pc → ⊥
-not_other l c image pc m (inl first) = first.differ (ap (λ (is : List Instr). slice_get is pc) m.code)
-not_other l c image pc m (inr tables) = tables.1 m.tables
+not_there : (l : Lowered) (c : Classed) (image : Image) (pc : ℕ) → IsCodeOf l c image → IsOtherPlace l c image pc → ⊥
+not_there l c image pc m (inl first) = first.differ (ap (λ (is : List Instr). slice_get is pc) m.code)
+not_there l c image pc m (inr tables) = tables.1 m.tables
+
+pub not_other : (l : Lowered) (c : Classed) (image : Image) (d : CodeDifference) → IsCodeOf l c image → IsOtherCode l c image d → ⊥
+not_other l c image d m other = not_there l c image d.pc m other.place
 
 pub not_lacking : (l : Lowered) (c : Classed) (stores : ℕ → ℕ → Bool) (k_limit : ℕ) (image : Image) (section : ℕ) (a : Lock) → ListsCover l c (Needed l c stores k_limit) image → IsFirstLacking l c (Needed l c stores k_limit) image.lists section a → ⊥
 not_lacking l c stores k_limit image section a over h =
@@ -98,10 +102,10 @@ not_open l c lists section a guarded h =
 
 pub checked_only : (is : List Item) (k_limit : ℕ) (image : Image) (fault : CheckFault) → IsChecked is k_limit image → IsRefusedLists is k_limit image fault → IsOutOfMemory fault
 checked_only is k_limit image (Infer fault) h r = accepted is k_limit fault h.covered.of_tree.accepted r
-checked_only is k_limit image (OtherCode pc) h r =
+checked_only is k_limit image (OtherCode d) h r =
     let a = h.covered.of_tree.analysis in let q = a.program in
-    absurd (not_other q.lowering q.classes image pc h.covered.of_tree.code
-    (same_analysis is q.lowering q.classes a.stores q.lowers q.are_classes a.tells (λ l c s. IsOtherCode l c image pc) r.analysis r.other))
+    absurd (not_other q.lowering q.classes image d h.covered.of_tree.code
+    (same_analysis is q.lowering q.classes a.stores q.lowers q.are_classes a.tells (λ l c s. IsOtherCode l c image d) r.analysis r.other))
 checked_only is k_limit image (Uncovered section x) h r =
     let a = h.covered.of_tree.analysis in let q = a.program in
     absurd (not_lacking q.lowering q.classes a.stores k_limit image section x h.covered.over

@@ -8,6 +8,7 @@ use Rattle.asl_backward_flow.specs.Needed.{RegionNeeds}
 use Rattle.asl_backward_flow.specs.Flows.{IsFlow}
 use Rattle.asl_emitter.specs.Inferred.{Analysis}
 use Rattle.asl_emitter.specs.Refused.{IsAccepted}
+use Rattle.asl_check.specs.declared.code_difference.CodeDifference.{CodeDifference}
 use Rattle.asl_check.specs.declared.fault.CheckFault.{CheckFault}
 use Rattle.asl_check.specs.declared.fault.CheckFault.TheVariants.{Infer, OtherCode, Uncovered, Unguarded}
 use Rattle.asl_check.specs.Checked.{IsCodeOf, AreGuarded, IsOtherCode}
@@ -19,8 +20,8 @@ module _ (is : List Item) (l : Lowered) (c : Classed) (k_limit : ℕ) (parts : L
   abbrev analysis : Analysis is
   analysis = record { program = record { lowering = l; lowers = lowers; classes = c; are_classes = are }; stores = flow.stores; tells = flow.written }
 
-  pub is_other : (image : Image) (pc : ℕ) → IsOtherCode l c image pc → IsOther is k_limit image pc
-  is_other image pc other = record { accepted = accepted; analysis = analysis; other = other }
+  pub is_other : (image : Image) (d : CodeDifference) → IsOtherCode l c image d → IsOther is k_limit image d
+  is_other image d other = record { accepted = accepted; analysis = analysis; other = other }
 
   pub is_checked : (image : Image) → IsCodeOf l c image → AreCovered l c parts image.lists (length l.sections) → AreGuarded l c image.lists (length l.sections) → IsChecked is k_limit image
   is_checked image code covered guarded =

@@ -1,5 +1,5 @@
 -- A program has one refusal of its code and its lists.
-use Rattle.std.proofs.Common.{◌≡◌, ◌⊎◌, ◌<◌, ℕ, suc, List, [], ◌∷◌, ◌++◌, Some, slice_get, refl, ap, ap₂, sym, ◌∙◌, subst, inl, inr, arith}
+use Rattle.std.proofs.Common.{◌≡◌, ◌⊎◌, ◌<◌, ℕ, suc, List, [], ◌∷◌, ◌++◌, Option, Some, map, slice_get, refl, ap, ap₂, sym, ◌∙◌, subst, inl, inr, arith}
 use Rattle.std.specs.Ordering.{ordering_reverse}
 use Rattle.std.specs.declared.cmp.Ordering.TheVariants.{Less, Equal, Greater}
 use Rattle.asl_code.specs.declared.image.Image.{Image}
@@ -15,10 +15,12 @@ use Rattle.asl_lock_expr.specs.Order.{lock_cmp}
 use Rattle.asl_lock_expr.proofs.Orders.{lock_total, lock_exact}
 use Rattle.asl_backward_flow.specs.Closed.{Family}
 use Rattle.asl_backward_flow.specs.Needed.{Needed}
+use Rattle.asl_soundness.specs.Coded.{classed}
 use Rattle.asl_emitter.specs.Lists.{Locks}
+use Rattle.asl_check.specs.declared.code_difference.CodeDifference.{CodeDifference}
 use Rattle.asl_check.specs.declared.fault.CheckFault.{CheckFault}
 use Rattle.asl_check.specs.declared.fault.CheckFault.TheVariants.{Infer, OtherCode, Uncovered, Unguarded}
-use Rattle.asl_check.specs.Checked.{IsUnderOne, AreUnder, IsFirstBare, LacksFirst, IsFirstOther, reads_of, IsCodeOf, IsOtherCode, IsFirstLacking, IsFirstOpen}
+use Rattle.asl_check.specs.Checked.{IsUnderOne, AreUnder, IsFirstBare, LacksFirst, IsFirstOther, reads_of, IsCodeOf, IsOtherCode, IsOtherPlace, owner_there, IsFirstLacking, IsFirstOpen}
 use Rattle.asl_check.specs.Refused.{IsRefusedLists, IsOfProgram}
 use Rattle.asl_check.proofs.Complete.{same_analysis, first_one, not_other, not_lacking}
 
@@ -54,11 +56,27 @@ one_other code other m n p q =
       | inr d ↦ elim d [ inl lt ↦ absurd (p.differ (q.same m lt)) | inr gt ↦ absurd (q.differ (p.same n gt)) ]
     ]
 
-one_code : (l : Lowered) (c : Classed) (image : Image) (m n : ℕ) → IsOtherCode l c image m → IsOtherCode l c image n → m ≡ n
-one_code l c image m n (inl p) (inl q) = one_other _ _ m n p q
-one_code l c image m n (inl p) (inr q) = absurd (p.differ (ap (λ (is : List Instr). slice_get is m) q.0))
-one_code l c image m n (inr p) (inl q) = absurd (q.differ (ap (λ (is : List Instr). slice_get is n) p.0))
-one_code l c image m n (inr p) (inr q) = p.2 ∙ sym q.2
+one_place : (l : Lowered) (c : Classed) (image : Image) (m n : ℕ) → IsOtherPlace l c image m → IsOtherPlace l c image n → m ≡ n
+one_place l c image m n (inl p) (inl q) = one_other _ _ m n p q
+one_place l c image m n (inl p) (inr q) = absurd (p.differ (ap (λ (is : List Instr). slice_get is m) q.0))
+one_place l c image m n (inr p) (inl q) = absurd (q.differ (ap (λ (is : List Instr). slice_get is n) p.0))
+one_place l c image m n (inr p) (inr q) = p.2 ∙ sym q.2
+
+-- a difference is what it has
+abbrev made : ℕ → ℕ → Option Instr → Option Instr → CodeDifference
+made pc function source program = record { pc = pc; function = function; source = source; program = program }
+
+alike : (d e : CodeDifference) → d.pc ≡ e.pc → d.function ≡ e.function → d.source ≡ e.source → d.program ≡ e.program → d ≡ e
+alike d e pc function source program =
+    ap₂ (λ (n m : ℕ). made n m d.source d.program) pc function ∙ ap₂ (λ (x y : Option Instr). made e.pc e.function x y) source program
+
+one_code : (l : Lowered) (c : Classed) (image : Image) (d e : CodeDifference) → IsOtherCode l c image d → IsOtherCode l c image e → d ≡ e
+one_code l c image d e p q =
+    let pc = one_place l c image d.pc e.pc p.place q.place in
+    let source : d.source ≡ e.source = p.source ∙ ap (λ n. slice_get (map (classed c) l.code) n) pc ∙ sym q.source in
+    let function : d.function ≡ e.function = p.function ∙ ap₂ (λ (o : Option Instr) n. owner_there l image o n) source pc ∙ sym q.function in
+    let program : d.program ≡ e.program = p.program ∙ ap (λ n. slice_get image.code n) pc ∙ sym q.program in
+    alike d e pc function source program
 
 -- of the same section, with what each says of it
 same_section : (l : Lowered) (n : ℕ) (s t : Section) → slice_get l.sections n ≡ Some s → slice_get l.sections n ≡ Some t → s ≡ t

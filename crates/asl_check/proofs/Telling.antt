@@ -111,6 +111,9 @@ module _ (is : List Item) (l : Lowered) (c : Classed) (k_limit : ℕ) (parts : L
         let own = stands_first fault h faults all in
         subst (IsRefusedLists is k_limit image) (same_head fault first own.0 rest (sym own.1 ∙ e)) (refused_first fault h)
 
+    pub some_lack : (fault : CheckFault) → IsFirstLack l c parts image.lists fault → (faults : List CheckFault) → AreAllLacks l c (IsTold parts) image.lists faults → faults ≡ [] → ⊥
+    some_lack fault h faults all none = let own = stands_first fault h faults all in not_nil fault own.0 (sym own.1 ∙ none)
+
     pub some_iff : (fault : CheckFault) → IsFirstLack l c parts image.lists fault → (faults : List CheckFault) → AreAllLacks l c (IsTold parts) image.lists faults → (faults ≡ []) ↔ IsChecked is k_limit image
     some_iff fault h faults all =
         let own = stands_first fault h faults all in (

@@ -1,5 +1,5 @@
 -- Which program is a tree's but for its lists, and which lists are enough for what its sections need (docs/ANALYSIS.md, "Lists of your own").
-use Rattle.std.specs.Prelude.{◌≡◌, ◌≢◌, ◌<◌, ◌⊎◌, ◌++◌, ◌∷◌, ℕ, suc, List, length, map, Some, slice_get}
+use Rattle.std.specs.Prelude.{◌≡◌, ◌≢◌, ◌<◌, ◌⊎◌, ◌++◌, ◌∷◌, ℕ, suc, List, length, map, Option, None, Some, slice_get}
 use Rattle.std.specs.List.{flat_map}
 use Rattle.std.specs.declared.cmp.Ordering.TheVariants.{Less}
 use Rattle.asl_code.specs.declared.image.Image.{Image}
@@ -8,6 +8,7 @@ use Rattle.asl_code.specs.declared.lock.Lock.{Lock}
 use Rattle.asl_code.specs.Versions.{newest}
 use Rattle.asl_lower.specs.declared.section.Section.{Section}
 use Rattle.asl_lower.specs.Lowered.{Lowered}
+use Rattle.asl_lower.specs.OpenSections.{owner_of}
 use Rattle.asl_lower.specs.Regions.{Inside}
 use Rattle.asl_points_to.specs.Classes.{Classed}
 use Rattle.asl_lock_expr.specs.Links.{IsOne, dereferenced}
@@ -16,6 +17,7 @@ use Rattle.asl_backward_flow.specs.Closed.{Family}
 use Rattle.asl_soundness.specs.Coded.{classed}
 use Rattle.asl_soundness.specs.Covering.{CoversLock}
 use Rattle.asl_emitter.specs.Lists.{Locks, IsFree}
+use Rattle.asl_check.specs.declared.code_difference.CodeDifference.{CodeDifference}
 
 -- a lock of the list covers this one
 abbrev pub IsUnderOne : Classed → ℕ → List Lock → Lock → Type 0
@@ -64,10 +66,22 @@ pub record IsCodeOf (l : Lowered) (c : Classed) (image : Image) : Type 0 where
   pub code : image.code ≡ map (classed c) l.code
 
 -- it has not: the first instruction that is another, or, where the tables are others, the number of instructions
-abbrev pub IsOtherCode : Lowered → Classed → Image → ℕ → Type 0
-IsOtherCode l c image pc =
+abbrev pub IsOtherPlace : Lowered → Classed → Image → ℕ → Type 0
+IsOtherPlace l c image pc =
     IsFirstOther image.code (map (classed c) l.code) pc
     ⊎ ((image.code ≡ map (classed c) l.code) × (¬ HasTables l c image) × (pc ≡ length image.code))
+
+-- the function in whose body a place is: of the tree's, or of the image's where the tree has no instruction there
+abbrev pub owner_there : Lowered → Image → Option Instr → ℕ → ℕ
+owner_there l image (Some own) pc = owner_of l.functions pc
+owner_there l image None pc = owner_of image.functions pc
+
+-- the image differs from the lowered code first at this place, in this function, and both have these instructions there
+pub record IsOtherCode (l : Lowered) (c : Classed) (image : Image) (d : CodeDifference) : Type 0 where
+  pub place : IsOtherPlace l c image d.pc
+  pub function : d.function ≡ owner_there l image d.source d.pc
+  pub source : d.source ≡ slice_get (map (classed c) l.code) d.pc
+  pub program : d.program ≡ slice_get image.code d.pc
 
 -- of the first sections, so many of them, the lists cover what the family has after the `acq`
 abbrev pub FirstListsCover : Lowered → Classed → Family → List (List Lock) → ℕ → Type 0

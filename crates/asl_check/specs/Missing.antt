@@ -84,5 +84,5 @@ pub record LacksAll (is : List Item) (k_limit : ℕ) (image : Image) (faults : L
 -- the lists are not judged: no program is inferred, the program's code is another, or the memory ran out
 abbrev pub IsBeforeLists : CheckFault → Type 0
 IsBeforeLists (Infer fault) = Unit {0}
-IsBeforeLists (OtherCode pc) = Unit {0}
+IsBeforeLists (OtherCode d) = Unit {0}
 IsBeforeLists fault = ⊥

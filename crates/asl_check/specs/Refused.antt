@@ -8,6 +8,7 @@ use Rattle.asl_emitter.specs.Inferred.{Analysis}
 use Rattle.asl_emitter.specs.Refused.{IsAccepted, IsRefusedInference as IsNotInferred}
 use Rattle.asl_emitter.specs.declared.fault.InferFault.TheVariants as infer
 use Rattle.asl_soundness.specs.Safe.{ListsCover}
+use Rattle.asl_check.specs.declared.code_difference.CodeDifference.{CodeDifference}
 use Rattle.asl_check.specs.declared.fault.CheckFault.{CheckFault}
 use Rattle.asl_check.specs.declared.fault.CheckFault.TheVariants.{Infer, OtherCode, Uncovered, Unguarded}
 use Rattle.asl_check.specs.Checked.{IsCodeOf, IsOtherCode, AreGuarded, IsFirstLacking, IsFirstOpen}
@@ -32,11 +33,11 @@ pub record IsChecked (is : List Item) (k_limit : ℕ) (image : Image) : Type 0 w
       AreGuarded covered.of_tree.analysis.program.lowering covered.of_tree.analysis.program.classes image.lists
       (length covered.of_tree.analysis.program.lowering.sections)
 
--- the tree is accepted, and the image is not its image, whatever its lists are
-pub record IsOther (is : List Item) (k_limit : ℕ) (image : Image) (pc : ℕ) : Type 0 where
+-- the tree is accepted, and the image is not its image, whatever its lists are: where it differs first
+pub record IsOther (is : List Item) (k_limit : ℕ) (image : Image) (d : CodeDifference) : Type 0 where
   pub accepted : IsAccepted is k_limit
   pub analysis : Analysis is
-  pub other : IsOtherCode analysis.program.lowering analysis.program.classes image pc
+  pub other : IsOtherCode analysis.program.lowering analysis.program.classes image d
 
 -- the section is the first whose list is not enough for what it needs, and the lock is the first that it lacks
 pub record Lacks (is : List Item) (k_limit : ℕ) (image : Image) (section : ℕ) (lock : Lock) : Type 0 where
@@ -55,7 +56,7 @@ pub record Reads (is : List Item) (k_limit : ℕ) (image : Image) (section : ℕ
 -- comes after the tree's lowering
 abbrev pub IsRefusedLists : List Item → ℕ → Image → CheckFault → Type 0
 IsRefusedLists is k_limit image (Infer fault) = IsNotInferred is k_limit fault
-IsRefusedLists is k_limit image (OtherCode pc) = IsOther is k_limit image pc
+IsRefusedLists is k_limit image (OtherCode d) = IsOther is k_limit image d
 IsRefusedLists is k_limit image (Uncovered section lock) = Lacks is k_limit image section lock
 IsRefusedLists is k_limit image (Unguarded section lock) = Reads is k_limit image section lock
 

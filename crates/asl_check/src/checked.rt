@@ -44,8 +44,8 @@ pub fn check(alloc: Global, ast: &Ast<'_>, program: &Program, k: u32) -> Result<
     ensures inferred { IsAccepted (tree_of ast.now) k → IsInferredFor (tree_of ast.now) k program.now → IfErr result IsOutOfMemory }
 {
     let analysis = analyse(alloc, ast, k)?;
-    if let Some(pc) = other_code(program, &analysis.lowering, &analysis.classes) {
-        return Err(CheckFault::OtherCode(pc));
+    if let Some(difference) = other_code(program, &analysis.lowering, &analysis.classes) {
+        return Err(CheckFault::OtherCode(difference));
     }
     let lists = program.lists();
     cover(&analysis.lowering, &analysis.classes, &analysis.flow, lists)?;

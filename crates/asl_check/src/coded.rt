@@ -3,8 +3,9 @@ ghost use Rattle.std.specs.Prelude.{◌≡◌, ◌↔◌, IsTrue, MatchOption, S
 ghost use Rattle.asl_soundness.specs.Coded.{classed};
 ghost use Rattle.asl_emitter.specs.BuiltImage.{HasSites};
 ghost use Rattle.asl_points_to.specs.Classes.{AreClasses};
-ghost use Rattle.asl_check.specs.Checked.{HasTables, IsCodeOf, IsFirstOther, IsOtherCode};
+ghost use Rattle.asl_check.specs.Checked.{HasTables, IsCodeOf, IsFirstOther, IsOtherCode, IsOtherPlace};
 
+use crate::code_difference::{CodeDifference, difference_at};
 use asl_code::{Function, Instr, NEWEST, Program};
 use asl_emitter::classed;
 use asl_lower::Lowering;
@@ -80,11 +81,11 @@ fn has_tables(program: &Program, lowering: &Lowering, classes: &Classes) -> bool
     program.lists().len() == lowering.sections().len()
 }
 
-/// Why a program is not that of a lowering with classes, its lists aside: the first instruction that is another's, or the number
+/// Where a program is not that of a lowering with classes, its lists aside: the first instruction that is another's, or the number
 /// of its instructions where the tables differ.
-pub fn other_code(program: &Program, lowering: &Lowering, classes: &Classes) -> Option<usize>
+fn other_place(program: &Program, lowering: &Lowering, classes: &Classes) -> Option<usize>
     requires { AreClasses lowering.now classes.now }
-    ensures { MatchOption result (IsCodeOf lowering.now classes.now program.now) (IsOtherCode lowering.now classes.now program.now) }
+    ensures { MatchOption result (IsCodeOf lowering.now classes.now program.now) (IsOtherPlace lowering.now classes.now program.now) }
 {
     if let Some(pc) = first_other(program.code(), lowering.code(), classes) {
         return Some(pc);
@@ -93,5 +94,20 @@ pub fn other_code(program: &Program, lowering: &Lowering, classes: &Classes) -> 
         None
     } else {
         Some(program.code().len())
+    }
+}
+
+/// Why a program is not that of a lowering with classes, its lists aside: where it differs first, and what both have there.
+pub fn other_code(
+    program: &Program,
+    lowering: &Lowering,
+    classes: &Classes,
+) -> Option<CodeDifference>
+    requires { AreClasses lowering.now classes.now }
+    ensures { MatchOption result (IsCodeOf lowering.now classes.now program.now) (IsOtherCode lowering.now classes.now program.now) }
+{
+    match other_place(program, lowering, classes) {
+        Some(pc) => Some(difference_at(program, lowering, classes, pc)),
+        None => None,
     }
 }

@@ -5,6 +5,7 @@ mod bare_locks;
 mod bare_reads;
 mod check_analysis;
 mod checked;
+mod code_difference;
 mod coded;
 mod covered;
 mod covers;
@@ -14,8 +15,8 @@ mod lacks;
 pub mod laws;
 mod locks;
 mod missing_locks;
-mod spelled;
 
 pub use checked::check;
+pub use code_difference::CodeDifference;
 pub use fault::CheckFault;
 pub use missing_locks::missing;

@@ -1,5 +1,5 @@
 -- The names of faults, as a line of standard error has them (docs/CLI.md, "Refusals"). Numbers are in decimal digits.
-use Rattle.std.specs.Prelude.{ℕ, List, [], ◌∷◌, ◌++◌, codes}
+use Rattle.std.specs.Prelude.{ℕ, List, [], ◌∷◌, ◌++◌, Option, None, Some, codes}
 use Rattle.std.specs.Fmt.{decimal}
 use Rattle.std.specs.List.{flat_map}
 use Rattle.asl_code.specs.declared.fault.VerifyFault.{VerifyFault}
@@ -12,6 +12,11 @@ use Rattle.asl_code.specs.declared.lock.Base.{Base}
 use Rattle.asl_code.specs.declared.lock.Base.TheVariants as base
 use Rattle.asl_code.specs.declared.lock.Lock.{Lock}
 use Rattle.asl_code.specs.declared.lock.Lock.TheVariants as lock
+use Rattle.asl_code.specs.declared.instr.Instr.{Instr}
+use Rattle.asl_code.specs.Operands.{operands}
+use Rattle.asl_assembler.specs.Words.{Token, name_of}
+use Rattle.asl_assembler.specs.Text.{instr_name, operand_tokens}
+use Rattle.asl_assembler.specs.Canonical.{word_of}
 use Rattle.asl_assembler.specs.declared.assembly.AsmFault.{AsmFault}
 use Rattle.asl_assembler.specs.declared.assembly.AsmFault.TheVariants as asm
 use Rattle.asl_loader.specs.declared.fault.LoadFault.{LoadFault}
@@ -28,6 +33,7 @@ use Rattle.asl_points_to.specs.declared.fault.ClassesFault.{ClassesFault}
 use Rattle.asl_points_to.specs.declared.fault.ClassesFault.TheVariants as classes
 use Rattle.asl_map.specs.declared.fault.MapFault.{MapFault}
 use Rattle.asl_map.specs.declared.fault.MapFault.TheVariants as map
+use Rattle.asl_check.specs.declared.code_difference.CodeDifference.{CodeDifference}
 use Rattle.asl_check.specs.declared.fault.CheckFault.{CheckFault}
 use Rattle.asl_check.specs.declared.fault.CheckFault.TheVariants as check
 use Rattle.asl_journal.specs.declared.fault.JournalFault.{JournalFault}
@@ -152,10 +158,54 @@ lock_text (lock.Expr expr e) = codes "expr " ++ base_text expr.base ++ path_text
 abbrev pub lacking_text : List ℕ → ℕ → Lock → List ℕ
 lacking_text name section l = name ++ codes "(" ++ decimal section ++ codes ", " ++ lock_text l ++ codes ")"
 
+-- the operands of an instruction, of which the first stands after a space, and each other one after a comma
+abbrev pub later_text : List Token → List ℕ
+later_text [] = []
+later_text (t ∷ ts) = codes ", " ++ (word_of t ++ later_text ts)
+
+abbrev pub operands_text : List Token → List ℕ
+operands_text [] = []
+operands_text (t ∷ ts) = codes " " ++ (word_of t ++ later_text ts)
+
+-- an instruction as an assembly text has it, as `load r2, r1`
+abbrev pub instr_text : Instr → List ℕ
+instr_text i = name_of (instr_name i) ++ operands_text (flat_map operand_tokens (operands i))
+
+abbrev pub marked_text : Instr → List ℕ
+marked_text i = codes "`" ++ instr_text i ++ codes "`"
+
+-- which function it is
+abbrev pub function_text : ℕ → List ℕ
+function_text function = codes ": function " ++ decimal function
+
+-- what a source and a program have at a place where one of them has another instruction, or none
+abbrev pub both_text : ℕ → Instr → Instr → List ℕ
+both_text function own there =
+    function_text function ++ codes " of the source has " ++ marked_text own ++ codes " there, and the program has " ++ marked_text there
+
+abbrev pub source_alone_text : ℕ → Instr → List ℕ
+source_alone_text function own =
+    function_text function ++ codes " of the source has " ++ marked_text own ++ codes " there, and the program has none"
+
+abbrev pub program_alone_text : ℕ → Instr → List ℕ
+program_alone_text function there =
+    function_text function ++ codes " of the program has " ++ marked_text there ++ codes " there, and the source has none"
+
+-- so of each place: where neither of them has an instruction, the code is the same
+abbrev pub difference_text : ℕ → Option Instr → Option Instr → List ℕ
+difference_text function (Some own) (Some there) = both_text function own there
+difference_text function (Some own) None = source_alone_text function own
+difference_text function None (Some there) = program_alone_text function there
+difference_text function None None = codes ": the code is the source's, and the version or a table is not"
+
+-- of code that is another's
+abbrev pub other_code_text : CodeDifference → List ℕ
+other_code_text d = numbered (codes "OtherCode") d.pc ++ difference_text d.function d.source d.program
+
 -- of lists of one's own
 abbrev pub check_text : CheckFault → List ℕ
 check_text (check.Infer cause) = infer_text cause
-check_text (check.OtherCode pc) = numbered (codes "OtherCode") pc
+check_text (check.OtherCode d) = other_code_text d
 check_text (check.Uncovered section l) = lacking_text (codes "Uncovered") section l
 check_text (check.Unguarded section l) = lacking_text (codes "Unguarded") section l
 

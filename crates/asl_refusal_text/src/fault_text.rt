@@ -2,6 +2,7 @@
 ghost use Rattle.std.specs.Prelude.{◌≡◌, ◌+◌, ◌<◌, ◌≤◌, ◌++◌, length, OnOk, OnErr, codes};
 ghost use Rattle.asl_refusal_text.specs.FaultText.{around, pair, verify_text, asm_text, load_text, syntax_text, region_text, infer_text, lower_text, classes_text, map_text, lacking_text, check_text, journal_text, file_text, run_text};
 
+use crate::difference_text::push_other_code;
 use crate::line_text::{Line, push, push_around, push_number, push_numbered};
 use crate::lock_text::push_lock;
 use arrayvec::CapacityError;
@@ -222,7 +223,7 @@ pub fn push_check(line: &mut Line, fault: &CheckFault) -> Result<(), CapacityErr
 {
     match fault {
         CheckFault::Infer(cause) => push_infer(line, *cause),
-        CheckFault::OtherCode(pc) => push_numbered(line, "OtherCode", *pc),
+        CheckFault::OtherCode(difference) => push_other_code(line, difference),
         CheckFault::Uncovered(section, lock) => push_lacking(line, "Uncovered", *section, lock),
         CheckFault::Unguarded(section, lock) => push_lacking(line, "Unguarded", *section, lock),
     }

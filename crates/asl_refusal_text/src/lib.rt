@@ -4,7 +4,9 @@
 #![tactic(auto)]
 
 mod check_lines;
+mod difference_text;
 mod fault_text;
+mod instr_text;
 mod line_text;
 mod lock_text;
 

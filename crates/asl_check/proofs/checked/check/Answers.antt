@@ -24,7 +24,7 @@ pub returns-in-Some-clause-refused : goal.returns-in-Some-clause-refused
 returns-in-Some-clause-refused c =
     let a = c.in_ok-analysis.analysis in
     let e = c.in_ok-analysis.ensures in
-    is_other (tree_of c.args.ast.now) a.lowering a.classes c.args.k a.flow e.lowering e.classes e.flow e.accepted c.args.program.now c.in-Some.pc c.in-Some.ensures
+    is_other (tree_of c.args.ast.now) a.lowering a.classes c.args.k a.flow e.lowering e.classes e.flow e.accepted c.args.program.now c.in-Some.difference c.in-Some.ensures
 
 pub cover-requires-clause-parts : goal.cover-requires-clause-parts
 cover-requires-clause-parts c = c.in_ok-analysis.ensures.flow.apart
@@ -96,7 +96,7 @@ returns-in_err-analysis-clause-inferred c = λ accept h.
 pub returns-in-Some-clause-inferred : goal.returns-in-Some-clause-inferred
 returns-in-Some-clause-inferred c = λ accept h.
     only_memory (tree_of c.args.ast.now) c.in_ok-analysis.analysis.lowering c.args.k c.args.program.now c.in_ok-analysis.ensures.lowering c.in_ok-analysis.ensures.kept accept h
-    (OtherCode c.in-Some.pc) (returns-in-Some-clause-refused c)
+    (OtherCode c.in-Some.difference) (returns-in-Some-clause-refused c)
 
 pub returns-in_err-cover-clause-inferred : goal.returns-in_err-cover-clause-inferred
 returns-in_err-cover-clause-inferred c = λ accept h.

@@ -1,13 +1,12 @@
 use Rattle.std.proofs.Common.{◌≡◌, List, Some, length, slice_get, get_or, ap, sym, ◌∙◌, refl, arith}
 use Rattle.std.proofs.lemmas.Option.{slice_get-get_or, slice_get_read}
 use Rattle.asl_lower.specs.declared.section.Section.{Section}
-use Rattle.asl_lower.proofs.Layouts.{kept_layout}
 use Rattle.asl_check.proofs.Covering.{guarded_more, open_lock}
 use Rattle.asl_check.proofs.covered.guard.Goals as goal
 
 pub overflow_cast-result : goal.overflow_cast-result
 overflow_cast-result c =
-    let few = (kept_layout c.args.lowering.now c.sections-section-items.ensures.kept).limits.few_sections in
+    let few = c.sections-section-items.ensures.kept.layout.limits.few_sections in
     let same = ap (length {A = Section}) c.sections-section-items.ensures.sections in
     let lt = c.loop-number-test.true in
     omega (arith, few, same, lt)

@@ -3,7 +3,6 @@ use Rattle.std.proofs.lemmas.Option.{slice_get-get_or, slice_get_read}
 use Rattle.asl_code.specs.declared.lock.Lock.{Lock}
 use Rattle.asl_lower.specs.declared.section.Section.{Section}
 use Rattle.asl_lower.specs.Regions.{Inside}
-use Rattle.asl_lower.proofs.Layouts.{kept_layout}
 use Rattle.asl_backward_flow.specs.Needed.{IsTold}
 use Rattle.asl_check.specs.declared.fault.CheckFault.{CheckFault}
 use Rattle.asl_check.specs.declared.fault.CheckFault.TheVariants.{Uncovered, Unguarded}
@@ -14,21 +13,21 @@ use Rattle.asl_check.proofs.lacks.lacks.Goals as goal
 
 pub overflow_cast-number : goal.overflow_cast-number
 overflow_cast-number c =
-    let few = (kept_layout c.args.lowering.now c.sections-section-items.ensures.kept).limits.few_sections in
+    let few = c.sections-section-items.ensures.kept.layout.limits.few_sections in
     let same = ap (length {A = Section}) c.sections-section-items.ensures.sections in
     let lt = c.loop-number-test.true in
     omega (arith, few, same, lt)
 
 pub overflow_cast-number-in-loop-number : goal.overflow_cast-number-in-loop-number
 overflow_cast-number-in-loop-number c =
-    let few = (kept_layout c.args.lowering.now c.sections-section-items.ensures.kept).limits.few_sections in
+    let few = c.sections-section-items.ensures.kept.layout.limits.few_sections in
     let same = ap (length {A = Section}) c.sections-section-items.ensures.sections in
     let lt = c.loop-number-test.true in
     omega (arith, few, same, lt)
 
 pub overflow_cast-place : goal.overflow_cast-place
 overflow_cast-place c =
-    let few = (kept_layout c.args.lowering.now c.sections-section-items-2.ensures.kept).limits.few_sections in
+    let few = c.sections-section-items-2.ensures.kept.layout.limits.few_sections in
     let same = ap (length {A = Section}) c.sections-section-items-2.ensures.sections in
     let lt = c.loop-place-test.true in
     omega (arith, few, same, lt)
