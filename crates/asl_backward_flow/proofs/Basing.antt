@@ -22,7 +22,6 @@ use Rattle.asl_lower.specs.Operands.{HasOperands}
 use Rattle.asl_lower.specs.OpenSections.{InBody}
 use Rattle.asl_lower.specs.Regions.{Region, Body, Inside, IsIn, Between}
 use Rattle.asl_lower.specs.LegalLowering.{IsLegalLowering}
-use Rattle.asl_lower.proofs.Layouts.{kept_layout}
 use Rattle.asl_points_to.specs.Classes.{Classed, to, AreClasses}
 use Rattle.asl_points_to.proofs.CountedClasses.{member_below, register_below, cell_below}
 use Rattle.asl_lock_expr.specs.ClassOf.{base_class, step_class, path_class, class_of}
@@ -58,7 +57,7 @@ in_body l kept (Inside n) f pc isin = between_body isin
   where
     between_body : Between l n f pc → InBody l f pc
     between_body b =
-        let section = (kept_layout l kept).sections.there n (slice_get_within l.sections n b.is b.in_table) in
+        let section = kept.layout.sections.there n (slice_get_within l.sections n b.is b.in_table) in
         let is : section.section ≡ b.is = some_same (sym section.in_table ∙ b.in_table) in
         let here : section.section.function ≡ f = ap (λ (s : Section). s.function) is ∙ b.function in
         let start = section.first_inside.start in
@@ -223,7 +222,7 @@ module _ (l : Lowered) (c : Classed) (stores : ℕ → ℕ → Bool) (k_limit : 
   operands_at : (r : Region) (f pc : ℕ) (i : Instr) → IsIn l r f pc → slice_get l.code pc ≡ Some i → Operands f i
   operands_at r f pc i isin at =
       let body = in_body l kept r f pc isin in
-      (body.function, body.in_table, (kept_layout l kept).operands pc f body.function i body body.in_table at)
+      (body.function, body.in_table, kept.layout.operands pc f body.function i body body.in_table at)
 
   entered_rough : (f g into first : ℕ) (callee : entry.Function) → Operands f (instr.Call into first g) → slice_get l.functions g ≡ Some callee → (m : Lock) → Rough g m → AllRough f (renamed first callee.params m)
   entered_rough f g into first callee ops there m rough =

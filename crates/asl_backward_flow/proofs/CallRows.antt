@@ -5,7 +5,6 @@ use Rattle.asl_code.specs.declared.instr.Instr.{Instr}
 use Rattle.asl_code.specs.declared.instr.Instr.TheVariants as instr
 use Rattle.asl_lower.specs.Lowered.{Lowered}
 use Rattle.asl_lower.specs.LegalLowering.{IsLegalLowering}
-use Rattle.asl_lower.proofs.Layouts.{kept_layout}
 use Rattle.asl_backward_flow.specs.declared.span.Span.{Span}
 use Rattle.asl_backward_flow.specs.Found.{IsAt, list_at}
 use Rattle.asl_backward_flow.specs.Graph.{HasRows, HasSome, HasCall, IsCall}
@@ -37,7 +36,7 @@ not_called l code same pc d not rows has =
 
 pub callee_there : (l : Lowered) → IsLegalLowering l → (code : List Instr) → code ≡ l.code → (pc : ℕ) → pc < length code → (d : Instr) (to first g : ℕ) → get_or code pc d ≡ instr.Call to first g → g < length l.functions
 callee_there l kept code same pc lt d to first g at =
-    let layout = kept_layout l kept in
+    let layout = kept.layout in
     let here : slice_get l.code pc ≡ Some (instr.Call to first g) = ap (λ c. slice_get c pc) (sym same) ∙ slice_get-get_or code pc d lt ∙ ap Some at in
     let body = layout.parted.owned pc (subst (λ c. pc < length c) same lt) in
     let has = layout.operands pc _ body.function (instr.Call to first g) body body.in_table here in

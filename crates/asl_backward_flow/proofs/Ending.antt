@@ -10,7 +10,6 @@ use Rattle.asl_lower.specs.OpenSections.{FlowsTo, start_of, InBody}
 use Rattle.asl_lower.specs.Regions.{Region, Body, Inside, IsIn, IsEnd, Between}
 use Rattle.asl_lower.specs.LegalLowering.{IsLegalLowering}
 use Rattle.asl_lower.proofs.Counts.{sum_more}
-use Rattle.asl_lower.proofs.Layouts.{kept_layout}
 use Rattle.asl_points_to.specs.Classes.{Classed}
 use Rattle.asl_lock_expr.specs.Links.{LinkContext, view, IsOne, accesses}
 use Rattle.asl_backward_flow.specs.Needed.{Needed, Accessed, Linked, Entered, Before}
@@ -25,7 +24,7 @@ end_returns : (l : Lowered) → IsLegalLowering l → (r : Region) (f pc : ℕ) 
 end_returns l kept (Body g) f pc i isin end at =
     let body : InBody l g pc = isin.2 in
     let next : start_of l.functions (suc g) ≡ start_of l.functions g + body.function.len = sum_more (λ (e : entry.Function). e.len) l.functions g body.function body.in_table in
-    let ret = (kept_layout l kept).returns.there g pc body.function body.in_table (sym next ∙ sym end) in
+    let ret = kept.layout.returns.there g pc body.function body.in_table (sym next ∙ sym end) in
     subst IsReturn (some_same (sym ret ∙ at)) tt
 end_returns l kept (Inside n) f pc i isin end at = absurd (before_end isin)
   where

@@ -5,7 +5,6 @@ use Rattle.asl_code.specs.declared.instr.Instr.TheVariants as instr
 use Rattle.asl_lower.specs.Lowered.{Lowered}
 use Rattle.asl_lower.specs.LegalLowering.{IsLegalLowering}
 use Rattle.asl_lower.specs.OpenSections.{FlowsTo}
-use Rattle.asl_lower.proofs.Layouts.{kept_layout}
 use Rattle.asl_backward_flow.specs.Found.{list_at}
 use Rattle.asl_backward_flow.specs.Graph.{HasRows, IsEdge, IsJump, goes_to_next, jump_target}
 use Rattle.asl_backward_flow.proofs.Sets.{some_same}
@@ -14,7 +13,7 @@ use Rattle.asl_backward_flow.proofs.Rows.{some_begin, some_more, some_end}
 -- where control continues to is in the code
 pub edge_there : (l : Lowered) → IsLegalLowering l → (pc : ℕ) → pc < length l.code → (i : Instr) (to : ℕ) → slice_get l.code pc ≡ Some i → FlowsTo i pc to → to < length l.code
 edge_there l kept pc lt i to at goes =
-    let layout = kept_layout l kept in
+    let layout = kept.layout in
     let body = layout.parted.owned pc lt in
     layout.parted.in_code to _ (layout.inside.body pc to _ i body at goes)
 

@@ -8,7 +8,6 @@ use Rattle.asl_code.specs.declared.instr.Instr.TheVariants as instr
 use Rattle.asl_code.specs.declared.lock.Lock.{Lock}
 use Rattle.asl_lower.specs.Lowered.{Lowered}
 use Rattle.asl_lower.specs.LegalLowering.{IsLegalLowering}
-use Rattle.asl_lower.proofs.Layouts.{kept_layout}
 use Rattle.asl_lock_expr.proofs.Ones.{one_left, one_right, one_either}
 use Rattle.asl_lock_expr.specs.Links.{LinkContext, IsOne, link, settle, accesses, renamed}
 use Rattle.asl_backward_flow.specs.declared.span.Span.{Span}
@@ -131,7 +130,7 @@ pub record IsCallThere (l : Lowered) (first g : ℕ) : Type 0 where
 
 pub call_there : (l : Lowered) → IsLegalLowering l → (pc to first g : ℕ) → slice_get l.code pc ≡ Some (instr.Call to first g) → IsCallThere l first g
 call_there l kept pc to first g at =
-    let layout = kept_layout l kept in
+    let layout = kept.layout in
     let body = layout.parted.owned pc (slice_get_within l.code pc _ at) in
     let has = layout.operands pc _ body.function (instr.Call to first g) body body.in_table at in
     let few = all_at (λ (f : entry.Function). f.regs ≤ 64) l.functions kept.few_registers _ body.function body.in_table in

@@ -7,7 +7,6 @@ use Rattle.asl_lower.specs.Lowered.{Lowered}
 use Rattle.asl_lower.specs.OpenSections.{start_of, IsInner, InBody}
 use Rattle.asl_lower.specs.Regions.{Region, Body, Inside, IsIn, Between}
 use Rattle.asl_lower.specs.LegalLowering.{IsLegalLowering}
-use Rattle.asl_lower.proofs.Layouts.{kept_layout}
 use Rattle.asl_lower.proofs.Reaching.{body_within}
 use Rattle.std.proofs.lemmas.Bool.{cases_lt}
 use Rattle.asl_backward_flow.specs.declared.region.Region.TheVariants as variant
@@ -25,7 +24,7 @@ pub record Bounds (l : Lowered) (n : ℕ) (s : Section) : Type 0 where
 
 pub section_bounds : (l : Lowered) → IsLegalLowering l → (n : ℕ) (d : Section) → n < length l.sections → Bounds l n (get_or l.sections n d)
 section_bounds l kept n d lt =
-    let layout = kept_layout l kept in
+    let layout = kept.layout in
     let there = layout.sections.there n lt in
     let same : get_or l.sections n d ≡ there.section = get_or_from_slice_get l.sections n there.section d there.in_table in
     let in_code = layout.parted.in_code there.section.release there.section.function there.last_inside in
@@ -58,7 +57,7 @@ pub record BodyBounds (l : Lowered) (g : ℕ) (f : entry.Function) : Type 0 wher
 
 pub body_bounds : (l : Lowered) → IsLegalLowering l → (g : ℕ) (d : entry.Function) → g < length l.functions → BodyBounds l g (get_or l.functions g d)
 body_bounds l kept g d lt =
-    let layout = kept_layout l kept in
+    let layout = kept.layout in
     let few = layout.limits.few_functions in
     let size = kept.size in
     let at : slice_get l.functions g ≡ Some (get_or l.functions g d) = slice_get-get_or l.functions g d lt in
@@ -206,7 +205,7 @@ bodies_skip l spans i so not = record {
 
 pub all_spans : (l : Lowered) → IsLegalLowering l → (spans : List Span) → AreBodies l spans (length l.functions) → AreSpans l spans
 all_spans l kept spans so =
-    let layout = kept_layout l kept in
+    let layout = kept.layout in
     record {
       each = so.each;
       all = λ r f pc. go r f pc;

@@ -46,6 +46,7 @@ step_of parts p q x y list more same there is region first = record {
 pub locks_before : (parts : List RegionNeeds) (p q : ℕ) (x : RegionNeeds) (list : List (ℕ × ℕ)) → q ≡ p → p < length parts → x ≡ get_or parts q x → locks_of (table_of parts list) p ≡ x.locks.keys
 locks_before parts p q x list same there is = list_of (λ (z : RegionNeeds). z.locks.keys) parts p x there ∙ ap (λ (z : RegionNeeds). z.locks.keys) (ap (λ n. get_or parts n x) (sym same) ∙ sym is)
 
+-- the sets of a region, as the table has them and as the code holds them, are one list
 pub sets_before : (parts : List RegionNeeds) (p q : ℕ) (x : RegionNeeds) (list : List (ℕ × ℕ)) → q ≡ p → p < length parts → x ≡ get_or parts q x → sets_of (table_of parts list) p ≡ x.needs.items
 sets_before parts p q x list same there is = list_of (λ (z : RegionNeeds). z.needs.items) parts p x there ∙ ap (λ (z : RegionNeeds). z.needs.items) (ap (λ n. get_or parts n x) (sym same) ∙ sym is)
 

@@ -8,3 +8,4 @@ pub mod Making
 pub mod Searching
 pub mod Chaining
 pub mod LeftOut
+pub mod StraightChains

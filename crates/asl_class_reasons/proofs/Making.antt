@@ -1,5 +1,5 @@
 -- Drafts that functions make: the first, one with a step more between places that are joined, and one settled.
-use Rattle.std.proofs.Common.{◌≡◌, ℕ, ◌+◌, ◌*◌, ◌^◌, ◌<◌, ◌≤◌, inl, inr, List, [], ◌∷◌, ◌++◌, length, get_or, take, drop, None, Some, slice_get, refl, sym, ap, ◌∙◌, subst, arith, length-drop}
+use Rattle.std.proofs.Common.{◌≡◌, ℕ, ◌+◌, ◌*◌, ◌^◌, ◌<◌, ◌≤◌, inl, inr, List, [], ◌∷◌, ◌++◌, length, sum, get_or, take, drop, None, Some, slice_get, refl, sym, ap, ◌∙◌, subst, arith, length-drop}
 use Rattle.std.specs.List.{range_with_len}
 use Rattle.std.proofs.lemmas.Bool.{cases_eq}
 use Rattle.std.proofs.lemmas.List.{length-take-le}
@@ -14,7 +14,7 @@ use Rattle.asl_class_reasons.specs.declared.place.Step.{Step}
 use Rattle.asl_class_reasons.specs.declared.flow.Owed.{Owed}
 use Rattle.asl_class_reasons.specs.declared.draft.Draft.{Draft}
 use Rattle.asl_class_reasons.specs.Reasons.{Joined, IsReasoned, AreAllReasons}
-use Rattle.asl_class_reasons.specs.Draft.{number, IsThere, IsThereFlow, IsSized, IsFounded, IsHead, IsSettled, IsOf, AreOf, AreThere, IsOwedAll, HoldAll, Holds, label, drafted}
+use Rattle.asl_class_reasons.specs.Draft.{number, IsThere, IsThereFlow, IsSized, IsFounded, IsGrown, IsHead, IsSettled, IsOf, AreOf, AreThere, IsOwedAll, HoldAll, Holds, label, drafted}
 use Rattle.asl_class_reasons.proofs.Linking.{extends_more, joined_within, reasons_more, slice_get_last}
 use Rattle.asl_class_reasons.proofs.Labels.{own_number, founded_new, number_low, there_before, there_after}
 use Rattle.asl_class_reasons.proofs.Owing.{head_points, there_flow}
@@ -69,7 +69,24 @@ longer_sized old new s z h = record {
       ]);
 }
 
-longer_founded : (l : Lowered) (old new : Draft) (s : Step) → IsFounded l old → IsReasoned l old.steps.items s → IsLonger old new s → IsFounded l new
+pub longer_made : (old mid new : Draft) (s : Step) → mid ≡ old → IsThere old s.from × IsThere old s.into → new.members ≡ mid.members → new.functions ≡ mid.functions → new.sets ≡ mid.sets → new.steps.items ≡ mid.steps.items ++ s ∷ [] → IsLonger old new s
+longer_made old mid new s same there m f xs grows = record {
+  members = m ∙ ap (λ (d : Draft). d.members) same;
+  functions = f ∙ ap (λ (d : Draft). d.functions) same;
+  sets = xs ∙ ap (λ (d : Draft). d.sets) same;
+  steps = grows ∙ ap (λ (d : Draft). d.steps.items ++ s ∷ []) same;
+  there = there;
+}
+
+pub longer_grown : (old new : Draft) (s : Step) → IsSized old → IsLonger old new s → IsGrown old new
+longer_grown old new s z h = record {
+  sized = longer_sized old new s z h;
+  members = h.members;
+  functions = h.functions;
+  lower = omega (arith, ap sum h.sets);
+}
+
+pub longer_founded : (l : Lowered) (old new : Draft) (s : Step) → IsFounded l old → IsReasoned l old.steps.items s → IsLonger old new s → IsFounded l new
 longer_founded l old new s f r h = record {
   members = h.members ∙ f.members;
   functions = h.functions ∙ f.functions;

@@ -83,7 +83,7 @@ due_meets l es d h all cause.SameClass a b x o e =
     let same = joined_meet d es all (place.Member o.0) (place.Member o.1) o.6 in
     ap (points d) o.3 ∙ sym (ap (λ (y : Option ℕ). option_and_then (inside d) y) same) ∙ sym (ap (points d) o.2) ∙ e
 
-step_meets : (l : Lowered) (es : List Step) (d : Classed) → IsLegal l d → AllMeet d es → (s : Step) → IsReasoned l es s → Meets d s
+pub step_meets : (l : Lowered) (es : List Step) (d : Classed) → IsLegal l d → AllMeet d es → (s : Step) → IsReasoned l es s → Meets d s
 step_meets l es d h all s r =
     let m = has_class l d h r.filled.0 r.filled.1 in
     let from : points d s.from ≡ Some m.0 = joined_meet d es all s.from (place.Member r.filled.0) r.filled.2 ∙ m.1 in

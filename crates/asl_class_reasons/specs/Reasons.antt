@@ -1,6 +1,6 @@
 -- Why members share a class (docs/ANALYSIS.md, "Why one class"): places that point to classes, steps between them, each an
 -- instance of a condition on legal classes, and chains of steps.
-use Rattle.std.specs.Prelude.{◌≡◌, ◌<◌, ◌+◌, ◌⊎◌, ℕ, List, [], ◌∷◌, Option, Some, slice_get, take, option_and_then}
+use Rattle.std.specs.Prelude.{◌≡◌, ◌<◌, ◌+◌, ◌⊎◌, ℕ, List, [], ◌∷◌, Option, Some, length, slice_get, take, option_and_then}
 use Rattle.asl_code.specs.declared.image.Function as entry
 use Rattle.asl_code.specs.declared.instr.Instr.{Instr}
 use Rattle.asl_code.specs.declared.instr.Instr.TheVariants as instr
@@ -13,6 +13,7 @@ use Rattle.asl_class_reasons.specs.declared.place.Cause.{Cause}
 use Rattle.asl_class_reasons.specs.declared.place.Cause.TheVariants as cause
 use Rattle.asl_class_reasons.specs.declared.place.Step.{Step}
 use Rattle.asl_class_reasons.specs.declared.place.Link.{Link}
+use Rattle.asl_class_reasons.specs.declared.straight.StraightChain.{StraightChain}
 
 -- the class that a place points to
 abbrev pub points : Classed → Place → Option ℕ
@@ -85,6 +86,10 @@ pub record IsReasoned (l : Lowered) (steps : List Step) (s : Step) : Type 0 wher
 abbrev pub AreReasons : Lowered → List Step → Type 0
 AreReasons l steps = (n : ℕ) (s : Step) → slice_get steps n ≡ Some s → IsReasoned l (take n steps) s
 
+-- each step of the second list is reasoned by those of the first
+abbrev pub AreReasonedBy : Lowered → List Step → List Step → Type 0
+AreReasonedBy l steps more = (n : ℕ) (s : Step) → slice_get more n ≡ Some s → IsReasoned l steps s
+
 -- what is found: for so many members and functions, the steps
 pub record Found : Type 0 where
   pub members : ℕ
@@ -95,3 +100,15 @@ pub record Found : Type 0 where
 pub record AreAllReasons (l : Lowered) (steps : List Step) : Type 0 where
   pub reasons : AreReasons l steps
   pub all : (c : Classed) → AreClasses l c → (m n : ℕ) → Share c m n → Joined steps (place.Member m) (place.Member n)
+
+-- the steps are reasons of the program, which has so many members and functions
+pub record AreReasonsOf (l : Lowered) (f : Found) : Type 0 where
+  pub members : f.members ≡ l.globals + l.sites
+  pub functions : f.functions ≡ length l.functions
+  pub reasons : AreReasons l f.steps
+
+-- a chain that is no circle: each of its steps is reasoned by the first so many of the list, and these leave its ends apart
+pub record IsStraight (l : Lowered) (steps : List Step) (from into : Place) (c : StraightChain) : Type 0 where
+  pub apart : ¬ Joined (take c.before steps) from into
+  pub reasoned : AreReasonedBy l (take c.before steps) c.steps.items
+  pub chain : IsChain c.steps.items from c.links.items into

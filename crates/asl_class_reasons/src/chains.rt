@@ -32,8 +32,8 @@ impl Model for Chains {
     ghost invariant = { λ c. IsShaped c.search };
 }
 
-/// All chains from a place by steps of a draft, all or the first of them.
-fn search(
+/// All chains from a place by the first steps: those whose ends are given. Their places are of the draft.
+pub(crate) fn search(
     alloc: Global,
     draft: &Draft,
     ends: &StepEnds,

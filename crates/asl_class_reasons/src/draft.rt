@@ -1,6 +1,6 @@
 //! The steps on the way, and which places they have joined.
 
-ghost use Rattle.std.specs.Prelude.{◌≡◌, ◌≢◌, ◌<◌, ◌≤◌, ◌^◌, ◌+◌, ℕ, true, false, Ok, OnOk, IfOk, IfSome, MatchOption, Some, None, length, sum, slice_get};
+ghost use Rattle.std.specs.Prelude.{◌≡◌, ◌≢◌, ◌<◌, ◌≤◌, ◌^◌, ◌+◌, ◌++◌, ◌∷◌, [], ℕ, true, false, Ok, OnOk, IfOk, IfSome, MatchOption, Some, None, length, sum, slice_get};
 ghost use Rattle.asl_lower.specs.Lowered.{Lowered};
 ghost use Rattle.asl_class_reasons.specs.Reasons.{IsReasoned};
 ghost use Rattle.asl_class_reasons.specs.Draft.{number, Has, IsThere, IsThereFlow, IsSized, IsFounded, label, target, drafted, Holds, IsOf, IsHead, IsGrown, IsSettled};
@@ -40,6 +40,8 @@ impl Draft {
         requires members { members < 2 ^ 20 }
         requires functions { functions ≤ 65536 }
         ensures sized { IfOk result IsSized }
+        ensures places { IfOk result (λ s. (s.members ≡ members) × (s.functions ≡ functions)) }
+        ensures none { IfOk result (λ s. s.steps.items ≡ []) }
         ensures founded { (l : Lowered) → members ≡ l.globals + l.sites → functions ≡ length l.functions → IfOk result (IsFounded l) }
     {
         Ok(Draft {
@@ -115,6 +117,7 @@ impl Draft {
         ensures founded { (l : Lowered) → IsFounded l self.old → IsReasoned l self.old.steps.items step → IfOk result (λ _. IsFounded l self.new) }
         ensures lower { IfOk result (λ apart. apart ≡ true → sum self.new.sets < sum self.old.sets) }
         ensures same { IfOk result (λ apart. apart ≡ false → (self.new ≡ self.old) × (label self.old step.from ≡ label self.old step.into)) }
+        ensures steps { IfOk result (λ apart. apart ≡ true → self.new.steps.items ≡ self.old.steps.items ++ step ∷ []) }
     {
         let from = self.sets.first(number(self.members, step.from));
         let into = self.sets.first(number(self.members, step.into));
@@ -124,6 +127,21 @@ impl Draft {
         self.steps.push(step)?;
         self.sets.join(from.min(into), from.max(into));
         Ok(true)
+    }
+
+    /// Adds a step, and joins its places.
+    pub(crate) fn add(&mut self, step: Step) -> Result<(), AllocError>
+        requires sized { IsSized self.old }
+        requires there { IsThere self.old step.from × IsThere self.old step.into }
+        ensures grown { IfOk result (λ _. IsGrown self.old self.new) }
+        ensures founded { (l : Lowered) → IsFounded l self.old → IsReasoned l self.old.steps.items step → IfOk result (λ _. IsFounded l self.new) }
+        ensures steps { IfOk result (λ _. self.new.steps.items ≡ self.old.steps.items ++ step ∷ []) }
+    {
+        if self.join(step)? {
+            return Ok(());
+        }
+        self.steps.push(step)?;
+        Ok(())
     }
 
     /// Makes the step that is owed now, if its places are apart, and says whether they were.

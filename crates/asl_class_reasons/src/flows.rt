@@ -2,6 +2,7 @@
 
 ghost use Rattle.std.specs.Prelude.{◌≡◌, ◌+◌, ◌<◌, ◌++◌, ◌∷◌, [], IfOk, IfSome, Some, None, length, slice_get};
 ghost use Rattle.asl_lower.specs.LegalLowering.{IsLegalLowering};
+ghost use Rattle.asl_lower.specs.OpenSections.{InBody};
 ghost use Rattle.asl_class_reasons.specs.Draft.{plain_flow, passed, returned_one, AreOwed, AreOwedAt};
 
 use crate::flow::{Flow, Owed};
@@ -16,24 +17,30 @@ pub(crate) fn program_owed(alloc: Global, lowering: &Lowering) -> Result<Vec<Owe
 {
     let code = lowering.code();
     let mut owed = Vec::new(alloc);
-    for pc in 0..code.len() {
-        push_owed(&mut owed, lowering, pc as u16, code[pc])?;
+    let mut start = 0;
+    for (number, function) in lowering.functions().iter().enumerate() {
+        let end = start + function.len as usize;
+        for pc in start..end {
+            push_owed(&mut owed, lowering, number as u16, pc as u16, code[pc])?;
+        }
+        start = end;
     }
     Ok(owed)
 }
 
-/// Adds what is owed to the instruction at a pc.
+/// Adds what is owed to the instruction at a pc, in the body of a function.
 fn push_owed(
     owed: &mut Vec<Owed>,
     lowering: &Lowering,
+    function: u16,
     pc: u16,
     instr: Instr,
 ) -> Result<(), AllocError>
     requires kept { IsLegalLowering lowering.now }
+    requires body { InBody lowering.now function pc }
     requires there { slice_get lowering.now.code pc ≡ Some instr }
     ensures { IfOk result (λ _. AreOwed lowering.now pc owed.old.items → AreOwed lowering.now (pc + 1) owed.new.items) }
 {
-    let function = lowering.owner(pc);
     if let Instr::Call {
         to,
         first,

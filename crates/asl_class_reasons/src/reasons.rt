@@ -9,6 +9,7 @@ ghost use Rattle.asl_class_reasons.specs.Reasons.{AreAllReasons};
 use crate::draft::Draft;
 use crate::flow::Owed;
 use crate::flows::program_owed;
+use crate::join_numbers::JoinNumbers;
 use crate::place::Step;
 use crate::settle::settle;
 use crate::step_ends::StepEnds;
@@ -21,6 +22,7 @@ use std::marker::Model;
 pub struct Reasons {
     pub(crate) draft: Draft,
     pub(crate) ends: StepEnds,
+    pub(crate) joins: JoinNumbers,
 }
 
 impl Model for Reasons {
@@ -71,8 +73,9 @@ pub fn reasons_of(alloc: Global, lowering: &Lowering) -> Result<Reasons, AllocEr
     for one in &owed {
         draft.shorten(*one)?;
     }
-    let ends = StepEnds::new(alloc, &draft)?;
-    Ok(Reasons { draft, ends })
+    let ends = StepEnds::new(alloc, &draft, draft.steps.as_slice())?;
+    let joins = JoinNumbers::new(alloc, &draft)?;
+    Ok(Reasons { draft, ends, joins })
 }
 
 impl Reasons {

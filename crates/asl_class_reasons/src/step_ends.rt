@@ -1,8 +1,10 @@
 //! For each place the steps at it, as searches go through them.
 
 ghost use Rattle.asl_class_reasons.specs.Draft.{IsSized};
+ghost use Rattle.asl_class_reasons.specs.Chains.{AreStepsThere};
 
 use crate::draft::{Draft, number};
+use crate::place::Step;
 use std::alloc::{AllocError, Global};
 
 /// The ends of steps, two for each step, the last step's first, counted from 1; 0 stands for none. The ends at a place are a
@@ -14,15 +16,15 @@ pub(crate) struct StepEnds {
 }
 
 impl StepEnds {
-    /// The ends of the steps of a draft.
-    pub(crate) fn new(alloc: Global, draft: &Draft) -> Result<StepEnds, AllocError>
-        requires { IsSized draft.now }
+    /// The ends of steps between places of a draft.
+    pub(crate) fn new(alloc: Global, draft: &Draft, steps: &[Step]) -> Result<StepEnds, AllocError>
+        requires sized { IsSized draft.now }
+        requires there { AreStepsThere draft.now.members draft.now.functions steps.now }
     {
         let places = draft.members + draft.members + draft.functions * 256;
         let firsts = vec![in alloc; 0; places as usize]?;
         let nexts = Vec::new(alloc);
         let mut ends = StepEnds { firsts, nexts };
-        let steps = draft.steps.as_slice();
         let count = steps.len();
         for later in 0..count {
             let step = steps[count - 1 - later];

@@ -4,15 +4,27 @@ use Rattle.std.proofs.lemmas.List.{at_drop_more}
 use Rattle.asl_class_reasons.specs.declared.place.Place.{Place}
 use Rattle.asl_class_reasons.specs.declared.place.Step.{Step}
 use Rattle.asl_class_reasons.specs.declared.place.Link.{Link}
-use Rattle.asl_class_reasons.specs.Reasons.{Leads, IsChain}
+use Rattle.asl_class_reasons.specs.declared.straight.StraightChain.{StraightChain}
+use Rattle.asl_class_reasons.specs.Reasons.{Leads, IsChain, IsStraight}
+use Rattle.asl_lower.specs.Lowered.{Lowered}
 use Rattle.asl_class_text.specs.declared.told.ToldStep.{ToldStep}
 use Rattle.asl_class_text.specs.Kinds.{start_of, end_of}
-use Rattle.asl_class_text.specs.Chains.{IsTold, IsToldChain}
+use Rattle.asl_class_text.specs.Chains.{IsTold, IsToldChain, IsStraightChain}
 
 -- so far the chain is told, and where all links lead to a place, those that are left do
 pub record Along (steps : List Step) (from : Place) (links : List Link) (into at : Place) (n : ℕ) (chain : List ToldStep) : Type 0 where
   pub told : IsToldChain steps from chain at
   pub rest : IsChain steps from links into → IsChain steps at (drop n links) into
+
+-- what is told of a straight chain
+pub straight_told : (l : Lowered) (reasons : List Step) (from into : Place) (c : StraightChain) (steps : List Step) (ts : List ToldStep) → IsStraight l reasons from into c → steps ≡ c.steps.items → IsToldChain steps from ts into → IsStraightChain l reasons from into ts
+straight_told l reasons from into c steps ts straight is told = record {
+  before = c.before;
+  apart = straight.apart;
+  steps = c.steps.items;
+  reasoned = straight.reasoned;
+  chain = subst (λ (es : List Step). IsToldChain es from ts into) is told;
+}
 
 pub leads_not : (s : Step) (a b : Place) → (s.from ≡ a → s.into ≡ b → ⊥) → (s.into ≡ a → s.from ≡ b → ⊥) → Leads s a b → ⊥
 leads_not s a b ahead back (inl h) = ahead h.0 h.1

@@ -5,3 +5,5 @@ pub mod Lined
 pub mod Paired
 pub mod Anywhere
 pub mod Telling
+pub mod Meeting
+pub mod Grounded

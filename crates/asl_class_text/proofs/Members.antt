@@ -1,5 +1,5 @@
 -- The members of a class share it, and so chains join them.
-use Rattle.std.proofs.Common.{◌≡◌, ℕ, zero, suc, ◌+◌, List, [], ◌∷◌, ◌++◌, Bool, true, false, ◌==◌, if◌then◌else◌, take, slice_get, Some, refl, sym, ap, subst, arith}
+use Rattle.std.proofs.Common.{◌≡◌, ◌<◌, ℕ, zero, suc, ◌+◌, List, [], ◌∷◌, ◌++◌, Bool, true, false, ◌==◌, if◌then◌else◌, take, slice_get, Some, refl, sym, ap, subst, arith}
 use Rattle.std.proofs.lemmas.Bool.{eqb-true}
 use Rattle.asl_lower.specs.Lowered.{Lowered}
 use Rattle.asl_points_to.specs.Classes.{Classed, AreClasses, members}
@@ -44,9 +44,40 @@ taken (suc a) [] n m h = h
 taken (suc a) (x ∷ xs) zero m h = h
 taken (suc a) (x ∷ xs) (suc n) m h = taken a xs n m h
 
+-- members rise: each other one is greater than the first
+abbrev Rise : List ℕ → ℕ → List ℕ → Type 0
+Rise ms first others = ms ≡ first ∷ others → (n m : ℕ) → slice_get others n ≡ Some m → first < m
+
+rising_here : (class k x : ℕ) (xs : List ℕ) → ((first : ℕ) (others : List ℕ) → Rise (numbered (one_of class) (suc k) xs) first others) → (b : Bool) (first : ℕ) (others : List ℕ) → Rise ((if b then k ∷ [] else []) ++ numbered (one_of class) (suc k) xs) first others
+rising_here class k x xs rest true first others e n m h =
+    let head : k ≡ first = cc in
+    let tail : numbered (one_of class) (suc k) xs ≡ others = cc in
+    let found = in_numbered class (suc k) xs n m (subst (λ (ys : List ℕ). slice_get ys n ≡ Some m) (sym tail) h) in
+    let at = found.1 in
+    omega arith
+rising_here class k x xs rest false first others e n m h = rest first others e n m h
+
+rising : (class k : ℕ) (xs : List ℕ) (first : ℕ) (others : List ℕ) → Rise (numbered (one_of class) k xs) first others
+rising class k [] first others e n m h = absurd cc
+rising class k (x ∷ xs) first others e n m h = rising_here class k x xs (λ f os g. rising class (suc k) xs f os g) (x == class) first others e n m h
+
+taken_rising : (a : ℕ) (ms : List ℕ) → ((first : ℕ) (others : List ℕ) → Rise ms first others) → (first : ℕ) (others : List ℕ) → Rise (take a ms) first others
+taken_rising zero ms rise first others e n m h = absurd cc
+taken_rising (suc a) [] rise first others e n m h = absurd cc
+taken_rising (suc a) (x ∷ xs) rise first others e n m h =
+    let head : x ≡ first = cc in
+    let tail : take a xs ≡ others = cc in
+    let low : x < m = rise x xs refl n m (taken a xs n m (subst (λ (ys : List ℕ). slice_get ys n ≡ Some m) (sym tail) h)) in
+    omega arith
+
 -- those of which it is told are joined to the first of them
 pub told_joined : (steps : List Step) (classes : List ℕ) (class a : ℕ) → AreClassesJoined steps classes → AreAllJoined steps (take a (members_of classes class))
-told_joined steps classes class a joined = record { each = λ first others is n m h. joined first m class (here first others is 0 first refl) (here first others is (suc n) m h) }
+told_joined steps classes class a joined = record {
+  each = λ first others is n m h. (
+    taken_rising a (members_of classes class) (λ f os e. rising class 0 classes f os e) first others is n m h,
+    joined first m class (here first others is 0 first refl) (here first others is (suc n) m h),
+  );
+}
   where
     here : (first : ℕ) (others : List ℕ) → take a (members_of classes class) ≡ first ∷ others → (k x : ℕ) → slice_get (first ∷ others) k ≡ Some x → slice_get classes x ≡ Some class
     here first others is k x g = member_at classes class k x (taken a (members_of classes class) k x (subst (λ (ys : List ℕ). slice_get ys k ≡ Some x) (sym is) g))

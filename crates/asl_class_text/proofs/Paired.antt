@@ -28,8 +28,11 @@ get_more (x ∷ xs) y (suc k) z h = elim (get_more xs y k z h) [ inl a ↦ inl a
 pub there_at : {A : Type 0} (xs : List A) (n : ℕ) (d x : A) → n < length xs → x ≡ get_or xs n d → slice_get xs n ≡ Some x
 there_at xs n d x low is = slice_get-get_or xs n d low ∙ ap Some (sym is)
 
+pub order_at : (steps : List Step) (first : ℕ) (others : List ℕ) (n d second : ℕ) → AreJoined steps first others → n < length others → second ≡ get_or others n d → first < second
+order_at steps first others n d second joined low is = (joined n second (there_at others n d second low is)).0
+
 pub joined_at : (steps : List Step) (first : ℕ) (others : List ℕ) (n d second : ℕ) → AreJoined steps first others → n < length others → second ≡ get_or others n d → Joined steps (Member first) (Member second)
-joined_at steps first others n d second joined low is = joined n second (there_at others n d second low is)
+joined_at steps first others n d second joined low is = (joined n second (there_at others n d second low is)).1
 
 pub others_more : (l : Lowered) (steps : List Step) (first : ℕ) (others : List ℕ) (n d second : ℕ) (old new : List ToldPair) (p : ToldPair) → n < length others → second ≡ get_or others n d → new ≡ old ++ p ∷ [] → IsOther l steps first second p
     → AreOthers l steps first others n old → AreOthers l steps first others (n + 1) new
@@ -53,3 +56,7 @@ classes_more l classes n steps all old new t grows one h = record {
         subst (λ (j : ℕ). IsToldClass l classes steps all j u) here (subst (λ (v : ToldClass). IsToldClass l classes steps all n v) b.1 one))
   ];
 }
+
+-- two members are two places
+pub two_members : (m n : ℕ) → m < n → Member m ≡ Member n → ⊥
+two_members m n low e = (let same : m ≡ n = cc in omega arith)

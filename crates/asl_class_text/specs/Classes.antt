@@ -17,7 +17,8 @@ use Rattle.asl_class_text.specs.declared.told.ToldClass.{ToldClass}
 use Rattle.asl_class_text.specs.Numbered.{numbered}
 use Rattle.asl_map.specs.Lines.{lines_from}
 use Rattle.asl_class_text.specs.Texts.{shown, classes_text}
-use Rattle.asl_class_text.specs.Chains.{IsToldChain}
+use Rattle.asl_class_text.specs.Chains.{IsStraightChain}
+use Rattle.asl_class_text.specs.Grounds.{most_grounds, AreGrounds}
 
 -- ---- members
 
@@ -39,11 +40,11 @@ told_of all ms = take (shown all (length ms)) ms
 abbrev pub IsParting : Lowered → ℕ → ℕ → ℕ → Type 0
 IsParting l pc m n = (c : Classed) × IsLegal (without l pc) c × (¬ Share c m n)
 
--- these two members, with a chain from the one to the other; and an instruction that parts them, if one is told
+-- these two members, with a chain from the one to the other that is no circle; and an instruction that parts them, if one is told
 pub record IsOther (l : Lowered) (steps : List Step) (first second : ℕ) (p : ToldPair) : Type 0 where
   pub from : p.first ≡ first
   pub into : p.second ≡ second
-  pub chain : IsToldChain steps (Member first) p.chain.items (Member second)
+  pub chain : IsStraightChain l steps (Member first) (Member second) p.chain.items
   pub parting : IfSome p.without (λ pc. IsParting l pc first second)
 
 -- the first member with each of the others, so many of them
@@ -57,11 +58,12 @@ ArePairs l steps (first ∷ others) ps = AreOthers l steps first others (length 
 
 -- ---- classes
 
--- what is told of a class: its members, and why they share it
+-- what is told of a class: its members, why they share it, and what the chains rest on
 pub record IsToldClass (l : Lowered) (classes : List ℕ) (steps : List Step) (all : Bool) (class : ℕ) (t : ToldClass) : Type 0 where
   pub number : t.class ≡ class
   pub members : t.members.items ≡ members_of classes class
   pub pairs : ArePairs l steps (told_of all (members_of classes class)) t.pairs.items
+  pub grounds : AreGrounds l steps (most_grounds all) t.pairs.items t.grounds
 
 -- so of each class
 pub record AreToldClasses (l : Lowered) (classes : List ℕ) (count : ℕ) (steps : List Step) (all : Bool) (ts : List ToldClass) : Type 0 where

@@ -13,6 +13,8 @@ use Rattle.asl_class_text.specs.declared.kinds.Kind.{Kind}
 use Rattle.asl_class_text.specs.declared.kinds.Kind.TheVariants as kind
 use Rattle.asl_class_text.specs.declared.told.ToldStep.{ToldStep}
 use Rattle.asl_class_text.specs.declared.told.ToldPair.{ToldPair}
+use Rattle.asl_class_text.specs.declared.told.ToldGround.{ToldGround}
+use Rattle.asl_class_text.specs.declared.told.ToldGrounds.{ToldGrounds}
 use Rattle.asl_class_text.specs.declared.told.ToldClass.{ToldClass}
 use Rattle.asl_class_text.specs.Numbered.{numbered}
 use Rattle.asl_class_text.specs.Places.{is_blank, line_of, line_at, stretch, stretch_at, area_of_site}
@@ -177,6 +179,19 @@ without_line f (Some pc) = codes "    without line " ++ (decimal (line_at f pc) 
 abbrev pub pair_lines : Facts → ToldPair → List ℕ
 pair_lines f p = head_line f p ++ (flat_map (step_line f) p.chain.items ++ (parameters_line f p.chain.items ++ without_line f p.without))
 
+-- the line before a ground's chain, after this indent
+abbrev pub ground_head : Facts → List ℕ → ToldGround → List ℕ
+ground_head f indent g = indent ++ (place_words f g.one ++ (codes " and " ++ (place_words f g.other ++ codes " point to one class, since\n")))
+
+abbrev pub ground_lines : Facts → List ℕ → ToldGround → List ℕ
+ground_lines f indent g = ground_head f indent g ++ (flat_map (step_line f) g.chain.items ++ parameters_line f g.chain.items)
+
+abbrev pub more_grounds : List ℕ → Bool → List ℕ
+more_grounds indent more = if more then indent ++ codes "and more such reasons\n" else []
+
+abbrev pub grounds_lines : Facts → List ℕ → ToldGrounds → List ℕ
+grounds_lines f indent gs = flat_map (ground_lines f indent) gs.items.items ++ more_grounds indent gs.more
+
 -- how many of so many members are told
 abbrev pub shown : Bool → ℕ → ℕ
 shown true count = count
@@ -191,7 +206,7 @@ more_line left = if nat_lt 0 left then codes "    and " ++ (decimal left ++ code
 
 abbrev pub reasons_block : Facts → Bool → ToldClass → List ℕ
 reasons_block f all t =
-    flat_map (pair_block f) t.pairs.items ++ more_line (length t.members.items - shown all (length t.members.items))
+    flat_map (pair_block f) t.pairs.items ++ (more_line (length t.members.items - shown all (length t.members.items)) ++ grounds_lines f (codes "    ") t.grounds)
 
 -- ---- classes
 
@@ -210,7 +225,7 @@ members_line f all t =
 
 -- the class with a number in a list
 abbrev pub class_lines : Facts → Bool → ℕ → ToldClass → List ℕ
-class_lines f all number t = (if nat_lt 0 number then codes "\n" else []) ++ (members_line f all t ++ flat_map (pair_lines f) t.pairs.items)
+class_lines f all number t = (if nat_lt 0 number then codes "\n" else []) ++ (members_line f all t ++ (flat_map (pair_lines f) t.pairs.items ++ grounds_lines f (codes "  ") t.grounds))
 
 abbrev pub classes_text : Facts → Bool → List ToldClass → List ℕ
 classes_text f all ts = numbered (class_lines f all) 0 ts

@@ -6,7 +6,7 @@ ghost use Rattle.asl_class_text.specs.Texts.{listed_words, left_words, members_l
 ghost use Rattle.asl_class_text.specs.Classes.{IsClassText};
 
 use crate::facts::Facts;
-use crate::lines::push_pairs;
+use crate::lines::{push_grounds, push_pairs};
 use crate::making::{shown, told_classes};
 use crate::reasoned::reasoned_with;
 use crate::told::ToldClass;
@@ -88,7 +88,8 @@ fn push_class(
     let between = if number > 0 { "\n" } else { "" };
     text.push_str(between)?;
     push_head(text, alloc, facts, all, told)?;
-    push_pairs(text, alloc, facts, &told.pairs)
+    push_pairs(text, alloc, facts, &told.pairs)?;
+    push_grounds(text, alloc, facts, "  ", &told.grounds)
 }
 
 /// The text of all classes.

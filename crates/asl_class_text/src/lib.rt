@@ -4,7 +4,9 @@
 mod chain;
 mod class_text;
 mod facts;
+mod grounds;
 mod kinds;
+mod laws;
 mod lines;
 mod making;
 mod parting;
@@ -16,8 +18,9 @@ mod words;
 
 pub use class_text::classes_told;
 pub use facts::{Facts, Known, known_source};
+pub use laws::chains_rest_on_less;
 pub use lines::{push_padded, push_place};
 pub use reasoned::{Reasoned, reasoned_source};
 pub use statements::line_of;
-pub use told::{ToldClass, ToldPair, ToldStep};
+pub use told::{ToldClass, ToldGround, ToldGrounds, ToldPair, ToldStep};
 pub use words::register_words;

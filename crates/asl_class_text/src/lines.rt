@@ -2,15 +2,15 @@
 ghost use Rattle.std.specs.Prelude.{◌≡◌, ◌++◌, OnOk, string_bytes, replicate};
 ghost use Rattle.std.specs.List.{flat_map};
 ghost use Rattle.asl_class_text.specs.Kinds.{is_passed, goes_through_parameters};
-ghost use Rattle.asl_class_text.specs.Texts.{padded, place_columns, way_line, merge_line, step_line, head_line, parameters_line, without_line, pair_lines, pair_block, more_line, reasons_block};
+ghost use Rattle.asl_class_text.specs.Texts.{padded, place_columns, way_line, merge_line, step_line, head_line, parameters_line, without_line, pair_lines, ground_head, ground_lines, more_grounds, grounds_lines, pair_block, more_line, reasons_block};
 
 use crate::facts::Facts;
 use crate::kinds::{Kind, kind_of};
 use crate::making::shown;
 use crate::phrases::{merge_words, way_words};
 use crate::statements::{line_at, statement_at};
-use crate::told::{ToldClass, ToldPair, ToldStep};
-use crate::words::member_words;
+use crate::told::{ToldClass, ToldGround, ToldGrounds, ToldPair, ToldStep};
+use crate::words::{member_words, place_words};
 use asl_class_reasons::Cause;
 use std::alloc::{AllocError, Global};
 use std::fmt::Write;
@@ -211,6 +211,80 @@ pub(crate) fn push_pairs(
     Ok(())
 }
 
+/// Adds the line before the chain of a ground.
+fn push_ground_head(
+    text: &mut String,
+    alloc: Global,
+    facts: &Facts<'_>,
+    indent: &str,
+    ground: &ToldGround,
+) -> Result<(), AllocError>
+    ensures { OnOk result (string_bytes text.new ≡ string_bytes text.old ++ ground_head facts.now indent.now ground.now) }
+{
+    let one = place_words(alloc, facts, ground.one)?;
+    let other = place_words(alloc, facts, ground.other)?;
+    write!(
+        text,
+        "{indent}{one} and {other} point to one class, since\n"
+    )
+}
+
+/// Adds why two places point to one class.
+fn push_ground(
+    text: &mut String,
+    alloc: Global,
+    facts: &Facts<'_>,
+    indent: &str,
+    ground: &ToldGround,
+) -> Result<(), AllocError>
+    ensures { OnOk result (string_bytes text.new ≡ string_bytes text.old ++ ground_lines facts.now indent.now ground.now) }
+{
+    push_ground_head(text, alloc, facts, indent, ground)?;
+    push_chain(text, alloc, facts, &ground.chain)?;
+    push_parameters(text, facts, &ground.chain)
+}
+
+/// Adds why the places of each of these grounds point to one class.
+fn push_each_ground(
+    text: &mut String,
+    alloc: Global,
+    facts: &Facts<'_>,
+    indent: &str,
+    grounds: &[ToldGround],
+) -> Result<(), AllocError>
+    ensures { OnOk result (string_bytes text.new ≡ string_bytes text.old ++ flat_map (ground_lines facts.now indent.now) grounds.now) }
+{
+    for ground in grounds {
+        push_ground(text, alloc, facts, indent, ground)?;
+    }
+    Ok(())
+}
+
+/// Adds that there are more grounds, if there are.
+fn push_more_grounds(text: &mut String, indent: &str, more: bool) -> Result<(), AllocError>
+    ensures { OnOk result (string_bytes text.new ≡ string_bytes text.old ++ more_grounds indent.now more) }
+{
+    if more {
+        write!(text, "{indent}and more such reasons\n")
+    } else {
+        Ok(())
+    }
+}
+
+/// Adds what the chains of a class rest on.
+pub(crate) fn push_grounds(
+    text: &mut String,
+    alloc: Global,
+    facts: &Facts<'_>,
+    indent: &str,
+    grounds: &ToldGrounds,
+) -> Result<(), AllocError>
+    ensures { OnOk result (string_bytes text.new ≡ string_bytes text.old ++ grounds_lines facts.now indent.now grounds.now) }
+{
+    push_each_ground(text, alloc, facts, indent, &grounds.items)?;
+    push_more_grounds(text, indent, grounds.more)
+}
+
 /// Adds why two members share a class, two blanks further on.
 fn push_pair_block(
     text: &mut String,
@@ -250,7 +324,7 @@ fn push_more(text: &mut String, left: usize) -> Result<(), AllocError>
     }
 }
 
-/// Adds why the members of a class share it.
+/// Adds why the members of a class share it, and what that rests on.
 pub(crate) fn push_reasons(
     text: &mut String,
     alloc: Global,
@@ -261,5 +335,6 @@ pub(crate) fn push_reasons(
     ensures { OnOk result (string_bytes text.new ≡ string_bytes text.old ++ reasons_block facts.now all told.now) }
 {
     push_pair_blocks(text, alloc, facts, &told.pairs)?;
-    push_more(text, told.members.len() - shown(all, told.members.len()))
+    push_more(text, told.members.len() - shown(all, told.members.len()))?;
+    push_grounds(text, alloc, facts, "    ", &told.grounds)
 }

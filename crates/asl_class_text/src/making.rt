@@ -1,18 +1,18 @@
 //! What is told of the classes of a program.
-ghost use Rattle.std.specs.Prelude.{◌≡◌, ◌<◌, ◌≤◌, ◌^◌, ◌++◌, length, IfOk, OnOk};
+ghost use Rattle.std.specs.Prelude.{◌≡◌, ◌≢◌, ◌<◌, ◌≤◌, ◌^◌, ◌++◌, length, IfOk, OnOk};
 ghost use Rattle.asl_class_reasons.specs.declared.place.Place.TheVariants.{Member};
-ghost use Rattle.asl_class_reasons.specs.Reasons.{Joined};
-ghost use Rattle.asl_class_reasons.specs.Chains.{AreChains};
-ghost use Rattle.asl_class_text.specs.Chains.{IsToldChain};
+ghost use Rattle.asl_class_reasons.specs.Reasons.{IsChain, Joined, AreReasonsOf};
+ghost use Rattle.asl_class_text.specs.Chains.{IsToldChain, IsStraightChain};
 ghost use Rattle.asl_class_text.specs.Texts.{shown};
 ghost use Rattle.asl_class_text.specs.Classes.{one_of, members_of, IsOther, AreOthers, ArePairs, IsToldClass, AreToldClasses};
 ghost use Rattle.asl_class_text.specs.Made.{AreJoined, AreAllJoined, AreClassesJoined};
 
 use crate::chain::told_chain;
 use crate::facts::Facts;
-use crate::parting::{all_trials, parting};
+use crate::grounds::{grounds_of, most_grounds};
+use crate::parting::{all_trials, class_trials, parting};
 use crate::told::{ToldClass, ToldPair, ToldStep};
-use asl_class_reasons::{Chains, Place, Reasons};
+use asl_class_reasons::{Place, Reasons, StraightChain};
 use std::alloc::{AllocError, Global};
 
 /// So many members are told where not all are; where there are more, one less than that and how many are left.
@@ -53,28 +53,39 @@ fn members_of(alloc: Global, classes: &[u16], class: u16) -> Result<Vec<u32>, Al
     Ok(members)
 }
 
-/// A chain from the first member of a class, from which all chains were sought, to another.
-fn chain_of(
+/// The steps of a straight chain from one place to another.
+fn steps_of(
     alloc: Global,
-    reasons: &Reasons,
-    chains: &Chains,
-    first: u32,
-    second: u32,
+    straight: &StraightChain,
+    from: Place,
+    into: Place,
 ) -> Result<Vec<ToldStep>, AllocError>
-    requires chains { AreChains reasons.now.steps chains.now }
-    requires from { chains.now.from ≡ Member first }
-    requires joined { Joined reasons.now.steps (Member first) (Member second) }
-    ensures { IfOk result (λ chain. IsToldChain reasons.now.steps (Member first) chain.items (Member second)) }
+    requires { IsChain straight.now.steps.items from straight.now.links.items into }
+    ensures { IfOk result (λ chain. IsToldChain straight.now.steps.items from chain.items into) }
 {
-    let from = Place::Member(first);
-    let into = Place::Member(second);
-    let Some(links) = chains.chain_to(alloc, into)? else {
-        unreachable!()
-    };
-    match told_chain(alloc, reasons.steps(), from, &links, into)? {
+    match told_chain(alloc, &straight.steps, from, &straight.links, into)? {
         Some(chain) => Ok(chain),
         None => unreachable!(),
     }
+}
+
+/// A chain from one place to another that is no circle.
+pub(crate) fn chain_of(
+    alloc: Global,
+    facts: &Facts<'_>,
+    reasons: &Reasons,
+    from: Place,
+    into: Place,
+) -> Result<Vec<ToldStep>, AllocError>
+    requires reasons { AreReasonsOf facts.now.lowering reasons.now }
+    requires two { from ≢ into }
+    requires joined { Joined reasons.now.steps from into }
+    ensures { IfOk result (λ chain. IsStraightChain facts.now.lowering reasons.now.steps from into chain.items) }
+{
+    let Some(straight) = reasons.straight_chain(alloc, &facts.lowering, from, into)? else {
+        unreachable!()
+    };
+    steps_of(alloc, &straight, from, into)
 }
 
 /// Why a member shares the class of the first.
@@ -82,17 +93,18 @@ fn pair_of(
     alloc: Global,
     facts: &Facts<'_>,
     reasons: &Reasons,
-    chains: &Chains,
     trials: &mut u32,
     first: u32,
     second: u32,
 ) -> Result<ToldPair, AllocError>
-    requires chains { AreChains reasons.now.steps chains.now }
-    requires from { chains.now.from ≡ Member first }
+    requires reasons { AreReasonsOf facts.now.lowering reasons.now }
+    requires order { first < second }
     requires joined { Joined reasons.now.steps (Member first) (Member second) }
     ensures { IfOk result (IsOther facts.now.lowering reasons.now.steps first second) }
 {
-    let chain = chain_of(alloc, reasons, chains, first, second)?;
+    let from = Place::Member(first);
+    let into = Place::Member(second);
+    let chain = chain_of(alloc, facts, reasons, from, into)?;
     let without = parting(alloc, facts, trials, first, second, &chain)?;
     Ok(ToldPair {
         first,
@@ -111,13 +123,13 @@ fn pairs_of(
     first: u32,
     others: &[u32],
 ) -> Result<Vec<ToldPair>, AllocError>
-    requires { AreJoined reasons.now.steps first others.now }
+    requires reasons { AreReasonsOf facts.now.lowering reasons.now }
+    requires joined { AreJoined reasons.now.steps first others.now }
     ensures { IfOk result (λ v. AreOthers facts.now.lowering reasons.now.steps first others.now (length others.now) v.items) }
 {
-    let chains = reasons.chains_from(alloc, Place::Member(first))?;
     let mut pairs = Vec::new(alloc);
     for second in others {
-        let pair = pair_of(alloc, facts, reasons, &chains, trials, first, *second)?;
+        let pair = pair_of(alloc, facts, reasons, trials, first, *second)?;
         pairs.push(pair)?;
     }
     Ok(pairs)
@@ -131,7 +143,8 @@ fn told_pairs(
     trials: &mut u32,
     told: &[u32],
 ) -> Result<Vec<ToldPair>, AllocError>
-    requires { AreAllJoined reasons.now.steps told.now }
+    requires reasons { AreReasonsOf facts.now.lowering reasons.now }
+    requires joined { AreAllJoined reasons.now.steps told.now }
     ensures { IfOk result (λ v. ArePairs facts.now.lowering reasons.now.steps told.now v.items) }
 {
     match told.split_first() {
@@ -153,16 +166,19 @@ pub(crate) fn told_class(
     class: u16,
 ) -> Result<ToldClass, AllocError>
     requires few { length facts.now.classes.items < 2 ^ 20 }
+    requires reasons { AreReasonsOf facts.now.lowering reasons.now }
     requires joined { AreClassesJoined reasons.now.steps facts.now.classes.items }
     ensures { IfOk result (IsToldClass facts.now.lowering facts.now.classes.items reasons.now.steps all class) }
 {
     let members = members_of(alloc, &facts.classes, class)?;
     let told = &members[..shown(all, members.len())];
     let pairs = told_pairs(alloc, facts, reasons, trials, told)?;
+    let grounds = grounds_of(alloc, facts, reasons, most_grounds(all), &pairs)?;
     Ok(ToldClass {
         class,
         members,
         pairs,
+        grounds,
     })
 }
 
@@ -174,13 +190,17 @@ pub(crate) fn told_classes(
     all: bool,
 ) -> Result<Vec<ToldClass>, AllocError>
     requires few { length facts.now.classes.items < 2 ^ 20 }
+    requires reasons { AreReasonsOf facts.now.lowering reasons.now }
     requires joined { AreClassesJoined reasons.now.steps facts.now.classes.items }
     ensures { IfOk result (λ v. AreToldClasses facts.now.lowering facts.now.classes.items facts.now.count reasons.now.steps all v.items) }
 {
     let mut classes = Vec::new(alloc);
+    let mut left = all_trials(facts);
     for class in 0..facts.count {
-        let mut trials = all_trials();
+        let given = class_trials(left);
+        let mut trials = given;
         classes.push(told_class(alloc, facts, reasons, &mut trials, all, class)?)?;
+        left = left.saturating_sub(given.saturating_sub(trials));
     }
     Ok(classes)
 }

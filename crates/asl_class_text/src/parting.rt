@@ -11,6 +11,9 @@ use std::alloc::{AllocError, Global};
 /// So many instructions are tried for a class.
 const MOST_TRIED: u32 = 16;
 
+/// All trials together go through at most so many instructions; each goes through the code once.
+const MOST_GONE_THROUGH: u32 = 16_777_216;
+
 /// In which order instructions are tried.
 #[derive(Clone, Copy, PartialEq, Eq)]
 enum Turn {
@@ -64,9 +67,15 @@ fn candidates(
     Ok(tried)
 }
 
-/// How many instructions are still tried for a class.
-pub(crate) fn all_trials() -> u32 {
-    MOST_TRIED
+/// How many instructions are tried for all classes.
+pub(crate) fn all_trials(facts: &Facts<'_>) -> u32 {
+    let count = u32::try_from(facts.lowering.code().len()).unwrap_or(u32::MAX);
+    MOST_GONE_THROUGH / count.max(1)
+}
+
+/// How many instructions are tried for a class, where so many trials are left.
+pub(crate) fn class_trials(left: u32) -> u32 {
+    left.min(MOST_TRIED)
 }
 
 /// An instruction of a chain without which the two members would be two, if one is found in so many trials, of which those that were

@@ -59,7 +59,7 @@ pub(crate) fn way_words(
 }
 
 /// The member of whose class a place is the cells; the first one for other places.
-fn owner(place: Place) -> u32
+pub(crate) fn owner(place: Place) -> u32
     ensures { result ≡ owner place }
 {
     match place {

@@ -23,6 +23,7 @@ pub struct Reasoned<'s> {
 
 impl<'s> Model for Reasoned<'s> {
     ghost use Rattle.std.specs.Prelude.{◌<◌, ◌^◌, length};
+    ghost use Rattle.asl_class_reasons.specs.Reasons.{AreReasonsOf};
     ghost use Rattle.asl_class_text.specs.Made.{AreClassesJoined};
     ghost use Rattle.asl_class_text.specs.Reasoned.{Reasoned as ReasonedValue};
 
@@ -30,7 +31,7 @@ impl<'s> Model for Reasoned<'s> {
 
     ghost view = { λ r. record { known = r.known; steps = r.reasons.steps } };
 
-    ghost invariant = { λ r. (length r.known.facts.classes.items < 2 ^ 20) × AreClassesJoined r.reasons.steps r.known.facts.classes.items };
+    ghost invariant = { λ r. (length r.known.facts.classes.items < 2 ^ 20) × AreReasonsOf r.known.facts.lowering r.reasons × AreClassesJoined r.reasons.steps r.known.facts.classes.items };
 }
 
 /// A source with this map, and the reasons.

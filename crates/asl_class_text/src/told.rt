@@ -1,11 +1,11 @@
 //! What is told of the classes of a program: their members, and for each member beside the first a chain of reasons.
 
-use asl_class_reasons::Step;
+use asl_class_reasons::{Place, Step};
 
 /// A step of a chain, and which way the chain goes over it.
 #[derive(Clone, Copy)]
 pub struct ToldStep {
-    /// Its number in the list of reasons.
+    /// Its number in the list of steps by which its chain was sought.
     pub number: usize,
     /// The step.
     pub step: Step,
@@ -20,10 +20,30 @@ pub struct ToldPair {
     pub first: u32,
     /// The other member, at which it ends.
     pub second: u32,
-    /// The chain.
+    /// The chain, which is no circle: no step of it rests on what it is to show.
     pub chain: Vec<ToldStep>,
     /// An instruction without which the two members would not share a class, if one was found.
     pub without: Option<u16>,
+}
+
+/// Two places by which steps of a chain come to the same cells, one after the other, and why they point to one class.
+#[derive(Drop)]
+pub struct ToldGround {
+    /// The place by which the first of the two steps comes there, at which the chain begins.
+    pub one: Place,
+    /// The place by which the other does, at which it ends.
+    pub other: Place,
+    /// The chain, which is no circle.
+    pub chain: Vec<ToldStep>,
+}
+
+/// What the chains of a class rest on.
+#[derive(Drop)]
+pub struct ToldGrounds {
+    /// The grounds, those of the pairs' chains first, then those of the grounds' own.
+    pub items: Vec<ToldGround>,
+    /// Whether there are more.
+    pub more: bool,
 }
 
 /// A class, and why its members share it.
@@ -35,4 +55,6 @@ pub struct ToldClass {
     pub members: Vec<u32>,
     /// The first member with each of the others that are told.
     pub pairs: Vec<ToldPair>,
+    /// Why steps of the chains come to the same cells.
+    pub grounds: ToldGrounds,
 }

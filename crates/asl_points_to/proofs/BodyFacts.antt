@@ -14,7 +14,6 @@ use Rattle.asl_lower.specs.OpenSections.{start_of, returned, returned_by, InBody
 use Rattle.asl_lower.specs.Operands.{HasOperands}
 use Rattle.asl_lower.specs.Facts.{HasLayout}
 use Rattle.asl_lower.specs.LegalLowering.{IsLegalLowering}
-use Rattle.asl_lower.proofs.Layouts.{kept_layout}
 use Rattle.asl_points_to.specs.Flows.{Stands}
 use Rattle.asl_points_to.proofs.Owed.{IsPlain}
 
@@ -29,7 +28,7 @@ pub record HasFacts (l : Lowered) (f : ℕ) (i : Instr) : Type 0 where
 
 pub facts : (l : Lowered) (f : ℕ) (i : Instr) → IsLegalLowering l → Stands l f i → HasFacts l f i
 facts l f i k s =
-    let h = kept_layout l k in
+    let h = k.layout in
     let b = s.inside in
     let low = slice_get_within l.functions f b.function b.in_table in
     record {
@@ -76,7 +75,7 @@ pub record HasBody (l : Lowered) (n : ℕ) (fn : entry.Function) : Type 0 where
 
 pub body_at : (l : Lowered) (fs : List entry.Function) (n : ℕ) (d : entry.Function) → IsLegalLowering l → fs ≡ l.functions → n < length fs → HasBody l n (get_or fs n d)
 body_at l fs n d k same lt =
-    let h = kept_layout l k in
+    let h = k.layout in
     let low : n < length l.functions = omega (arith, ap (λ (xs : List entry.Function). length xs) same) in
     let read : get_or fs n d ≡ get_or l.functions n d = ap (λ (xs : List entry.Function). get_or xs n d) same in
     let len : (get_or fs n d).len ≡ (get_or l.functions n d).len = ap (λ (x : entry.Function). x.len) read in
@@ -119,4 +118,4 @@ registers_more l registers n r len so is g lt =
 -- the flows of all instructions of a program, for those of all its bodies
 pub start_of_all : (l : Lowered) (n : ℕ) → IsLegalLowering l → length l.functions ≤ n → start_of l.functions n ≡ length l.code
 start_of_all l n k le =
-    ap (λ (xs : List entry.Function). sum_by (λ (f : entry.Function). f.len) xs) (take_all n l.functions le) ∙ (kept_layout l k).parted.total
+    ap (λ (xs : List entry.Function). sum_by (λ (f : entry.Function). f.len) xs) (take_all n l.functions le) ∙ k.layout.parted.total

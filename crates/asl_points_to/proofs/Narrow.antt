@@ -13,7 +13,6 @@ use Rattle.asl_lower.specs.Operands.{HasOperands}
 use Rattle.asl_lower.specs.Limits.{FitsTable}
 use Rattle.asl_lower.specs.Facts.{HasLayout}
 use Rattle.asl_lower.specs.LegalLowering.{IsLegalLowering}
-use Rattle.asl_lower.proofs.Layouts.{kept_layout}
 use Rattle.asl_points_to.specs.declared.class_draft.ClassDraft.{ClassDraft}
 use Rattle.asl_points_to.specs.Classes.{Classed, some_at, to, members, Gives, IsLegalAt, IsLegal, GoInto, AreNumbered, AreClasses}
 use Rattle.asl_points_to.specs.Numbers.{AreNumbers, numbered, numbered_row, numbered_cells}
@@ -116,7 +115,7 @@ legal_at l h c w n f fn i at o k = tt
 
 pub narrow_legal : (l : Lowered) → IsLegalLowering l → (c w : Classed) → IsNarrow l c w → IsLegal l w → IsLegal l c
 narrow_legal l kept c w n legal =
-    let h = kept_layout l kept in
+    let h = kept.layout in
     record {
       globals = ap (λ (xs : List ℕ). length xs) n.globals ∙ legal.globals;
       sites = ap (λ (xs : List ℕ). length xs) n.sites ∙ legal.sites;

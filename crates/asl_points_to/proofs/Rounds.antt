@@ -1,5 +1,6 @@
 -- A round of flows.
-use Rattle.std.proofs.Common.{◌≡◌, ℕ, ◌+◌, ◌≤◌, ◌⊎◌, inl, inr, List, [], ◌∷◌, ◌++◌, length, get_or, refl, sym, ap, ◌∙◌, subst, arith}
+use Rattle.std.proofs.Common.{◌≡◌, ℕ, ◌+◌, ◌≤◌, ◌⊎◌, inl, inr, List, [], ◌∷◌, ◌++◌, length, get_or, Some, slice_get, refl, sym, ap, ◌∙◌, subst, arith}
+use Rattle.std.proofs.lemmas.Option.{get_or_from_slice_get, slice_get_within}
 use Rattle.std.specs.List.{All, Contains}
 use Rattle.std.proofs.lemmas.List.{length_push}
 use Rattle.std.proofs.lemmas.List.Elements.{All-contains, Contains-get_or, Contains-append_left, Contains-push, Contains-push_cases}
@@ -139,3 +140,40 @@ settling_goes flows old now new waiting left s r = record {
   among = λ f h. s.among f (r.among f h);
   forced = λ c o h. r.forced c (s.forced c o h) (all_waiting (Holds c) flows waiting s.among h);
 }
+
+-- flows that have flowed meanwhile, in any order
+pub record IsAhead (flows : List Flow) (now new : ClassDraft) : Type 0 where
+  pub draft : IsDraft new
+  pub keeps : Keeps now new
+  pub forced : (c : Classed) → IsForced c now → All (Holds c) flows → IsForced c new
+
+pub ahead_begins : (flows : List Flow) (s : ClassDraft) → IsDraft s → IsAhead flows s s
+ahead_begins flows s d = record { draft = d; keeps = keeps_itself s; forced = λ c f h. f }
+
+pub ahead_there : (flows : List Flow) (now new : ClassDraft) (f : Flow) → IsAhead flows now new → Contains flows f → All (IsThere (length now.registers.items) (length now.sets)) flows → IsThere (length new.registers.items) (length new.sets) f
+ahead_there flows now new f a inside there =
+    let h = All-contains (IsThere (length now.registers.items) (length now.sets)) flows f there inside in
+    let P : ℕ → Type 0 = λ n. IsThere n (length now.sets) f in
+    let Q : ℕ → Type 0 = λ n. IsThere (length new.registers.items) n f in
+    subst Q (sym a.keeps.members) (subst P (sym a.keeps.functions) h)
+
+pub ahead_goes : (flows : List Flow) (old now new : ClassDraft) (f : Flow) → IsAhead flows old now → Contains flows f → IsDraft new → Keeps now new → ((c : Classed) → IsForced c now → Holds c f → IsForced c new) → IsAhead flows old new
+ahead_goes flows old now new f a inside d k forced = record {
+  draft = d;
+  keeps = keeps_on old now new a.keeps k;
+  forced = λ c o h. forced c (a.forced c o h) (All-contains (Holds c) flows f h inside);
+}
+
+pub settling_ahead : (flows : List Flow) (old now new : ClassDraft) (waiting : List Flow) → IsSettling flows old now waiting → IsAhead waiting now new → IsSettling flows old new waiting
+settling_ahead flows old now new waiting s a = record {
+  draft = a.draft;
+  keeps = keeps_on old now new s.keeps a.keeps;
+  flowed = λ f h. elim (s.flowed f h) [ inl done ↦ inl (flowed_on now new a.keeps f done) | inr w ↦ inr w ];
+  among = s.among;
+  forced = λ c o h. a.forced c (s.forced c o h) (all_waiting (Holds c) flows waiting s.among h);
+}
+
+-- a flow of a number is one of the flows
+pub contains_at : (flows : List Flow) (n : ℕ) (f : Flow) → slice_get flows n ≡ Some f → Contains flows f
+contains_at flows n f e =
+    subst (Contains flows) (get_or_from_slice_get flows n f f e) (Contains-get_or flows n f (slice_get_within flows n f e))

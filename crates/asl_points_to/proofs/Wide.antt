@@ -5,7 +5,6 @@ use Rattle.std.proofs.lemmas.List.Elements.{Contains-get_or}
 use Rattle.std.proofs.lemmas.Option.{slice_get-get_or, slice_get_within, get_or_from_slice_get}
 use Rattle.asl_lower.specs.Lowered.{Lowered}
 use Rattle.asl_lower.specs.LegalLowering.{IsLegalLowering}
-use Rattle.asl_lower.proofs.Layouts.{kept_layout}
 use Rattle.asl_points_to.specs.declared.class_draft.ClassDraft.{ClassDraft}
 use Rattle.asl_points_to.specs.declared.value_flow.Place.{Place}
 use Rattle.asl_points_to.specs.declared.value_flow.Flow.{Flow}
@@ -155,7 +154,7 @@ wide_legal l s numbers firsts kept se n =
           let inside = Contains-get_or flows.flows k d low in
           let P : ℕ → Type 0 = λ m. IsThere (length l.functions) m x in
           flow_holds l s numbers firsts se n (length l.functions) x (subst P (sym se.members) (flows.are.there k d low)) (flows.each x inside)))
-          f pc i ((kept_layout l kept).parted.in_code pc f b) b e;
+          f pc i (kept.layout.parted.in_code pc f b) b e;
     }
 
 pub wide_goes : (l : Lowered) (s : ClassDraft) (numbers firsts : List ℕ) → IsSettled l s → AreNumbers s.sets numbers firsts → (d : Classed) → IsLegal l d → GoInto (wide l s numbers firsts) d

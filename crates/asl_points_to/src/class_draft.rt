@@ -8,6 +8,7 @@ ghost use Rattle.asl_points_to.specs.Draft.{class_in, at, entry, pointed, inner,
 
 use crate::sets::DisjointSets;
 use crate::value_flow::{Flow, Place};
+use crate::waiting::{Lacking, Waiting};
 use std::alloc::{AllocError, Global};
 
 /// The registers of a function, each with a member to whose class it points.
@@ -88,7 +89,7 @@ impl ClassDraft {
 
     /// Merges the classes of two members. Where the cells of both point somewhere, answers the members whose classes are
     /// to be merged next.
-    fn merge(&mut self, left: u32, right: u32) -> Option<(u32, u32)>
+    fn merge(&mut self, waiting: &mut Waiting, left: u32, right: u32) -> Option<(u32, u32)>
         requires draft { IsDraft self.old }
         requires left { left < length self.old.sets }
         requires right { right < length self.old.sets }
@@ -104,12 +105,13 @@ impl ClassDraft {
         }
         let kept = left.min(right);
         let gone = left.max(right);
+        waiting.merged(&self.cells, kept, gone);
         self.sets.join(kept, gone);
         take_over(&mut self.cells, kept, gone)
     }
 
     /// Merges the classes of two members, and then those to which the cells of these point, and so on.
-    fn unify(&mut self, left: u32, right: u32)
+    fn unify(&mut self, waiting: &mut Waiting, left: u32, right: u32)
         requires draft { IsDraft self.old }
         requires left { left < length self.old.sets }
         requires right { right < length self.old.sets }
@@ -118,14 +120,14 @@ impl ClassDraft {
         ensures joined { first self.new left ≡ first self.new right }
         ensures forced { (c : Classed) → IsForced c self.old → class_in c left ≡ class_in c right → IsForced c self.new }
     {
-        let mut next = self.merge(left, right);
+        let mut next = self.merge(waiting, left, right);
         while let Some((left, right)) = next {
-            next = self.merge(left, right);
+            next = self.merge(waiting, left, right);
         }
     }
 
     /// Lets a register point to the class of a member.
-    fn point(&mut self, place: Place, member: u32)
+    fn point(&mut self, waiting: &mut Waiting, place: Place, member: u32)
         requires draft { IsDraft self.old }
         requires place { place.function < length self.old.registers.items }
         requires member { member < length self.old.sets }
@@ -135,13 +137,16 @@ impl ClassDraft {
         ensures forced { (c : Classed) → IsForced c self.old → at c place ≡ Some (class_in c member) → IsForced c self.new }
     {
         match pointed(&self.registers, place) {
-            Some(other) => self.unify(other, member),
-            None => set_pointed(&mut self.registers, place, member),
+            Some(other) => self.unify(waiting, other, member),
+            None => {
+                waiting.pointed(place);
+                set_pointed(&mut self.registers, place, member)
+            }
         }
     }
 
     /// Lets the cells of a member's class point to the class of another member.
-    fn point_cells(&mut self, address: u32, member: u32)
+    fn point_cells(&mut self, waiting: &mut Waiting, address: u32, member: u32)
         requires draft { IsDraft self.old }
         requires address { address < length self.old.sets }
         requires member { member < length self.old.sets }
@@ -152,8 +157,11 @@ impl ClassDraft {
     {
         let first = self.sets.first(address);
         match self.cells[first as usize] {
-            Some(inside) => self.unify(inside, member),
-            None => self.cells[first as usize] = Some(member),
+            Some(inside) => self.unify(waiting, inside, member),
+            None => {
+                waiting.filled(first);
+                self.cells[first as usize] = Some(member)
+            }
         }
     }
 
@@ -171,7 +179,7 @@ impl ClassDraft {
     }
 
     /// Lets a register point to the class of a member, if there is one, and says whether there is.
-    fn copy(&mut self, source: Option<u32>, into: Place) -> bool
+    fn copy(&mut self, waiting: &mut Waiting, source: Option<u32>, into: Place) -> bool
         requires draft { IsDraft self.old }
         requires into { into.function < length self.old.registers.items }
         requires source { IfSome source (λ m. m < length self.old.sets) }
@@ -183,7 +191,7 @@ impl ClassDraft {
     {
         match source {
             Some(member) => {
-                self.point(into, member);
+                self.point(waiting, into, member);
                 true
             }
             None => false,
@@ -191,7 +199,7 @@ impl ClassDraft {
     }
 
     /// Lets the cells of a member's class point to the class of another, if there are the two, and says whether there are.
-    fn store(&mut self, address: Option<u32>, source: Option<u32>) -> bool
+    fn store(&mut self, waiting: &mut Waiting, address: Option<u32>, source: Option<u32>) -> bool
         requires draft { IsDraft self.old }
         requires address { IfSome address (λ m. m < length self.old.sets) }
         requires source { IfSome source (λ m. m < length self.old.sets) }
@@ -203,15 +211,16 @@ impl ClassDraft {
     {
         match (address, source) {
             (Some(address), Some(member)) => {
-                self.point_cells(address, member);
+                self.point_cells(waiting, address, member);
                 true
             }
             _ => false,
         }
     }
 
-    /// Lets a flow flow, if there is something to flow, and says whether there was.
-    pub fn flow(&mut self, flow: Flow) -> bool
+    /// Lets a flow flow, if there is something to flow, and says whether there was. Wakes flows that wait for what comes to point
+    /// somewhere.
+    pub fn flow(&mut self, waiting: &mut Waiting, flow: Flow) -> bool
         requires draft { IsDraft self.old }
         requires there { IsThere (length self.old.registers.items) (length self.old.sets) flow }
         ensures draft { IsDraft self.new }
@@ -223,22 +232,42 @@ impl ClassDraft {
     {
         match flow {
             Flow::Member { member, into } => {
-                self.point(into, member);
+                self.point(waiting, into, member);
                 true
             }
             Flow::Copy { from, into } => {
                 let source = pointed(&self.registers, from);
-                self.copy(source, into)
+                self.copy(waiting, source, into)
             }
             Flow::Load { address, into } => {
                 let source = self.loaded(address);
-                self.copy(source, into)
+                self.copy(waiting, source, into)
             }
             Flow::Store { address, from } => {
                 let address = pointed(&self.registers, address);
                 let source = pointed(&self.registers, from);
-                self.store(address, source)
+                self.store(waiting, address, source)
             }
+        }
+    }
+
+    /// What a flow waits for that has nothing to flow.
+    pub fn lacking(&mut self, flow: Flow) -> Lacking
+        requires draft { IsDraft self.old }
+        requires there { IsThere (length self.old.registers.items) (length self.old.sets) flow }
+        ensures same { self.new ≡ self.old }
+    {
+        match flow {
+            Flow::Member { .. } => Lacking::Nothing,
+            Flow::Copy { from, .. } => Lacking::Register(from),
+            Flow::Load { address, .. } => match pointed(&self.registers, address) {
+                Some(member) => Lacking::Cells(self.sets.first(member)),
+                None => Lacking::Register(address),
+            },
+            Flow::Store { address, from } => match pointed(&self.registers, address) {
+                Some(_) => Lacking::Register(from),
+                None => Lacking::Register(address),
+            },
         }
     }
 }

@@ -11,6 +11,7 @@ mod sets;
 mod settle;
 mod value_flow;
 mod value_flows;
+mod waiting;
 
 pub use class_table::Classes;
 pub use fault::ClassesFault;

@@ -1,5 +1,4 @@
 use Rattle.std.proofs.Common.{Vec, Global, List, ◌+◌, ◌∙◌, length, ap, sym, subst, arith}
-use Rattle.asl_lower.proofs.Layouts.{kept_layout}
 use Rattle.asl_backward_flow.specs.Spans.{AreBodies}
 use Rattle.asl_backward_flow.proofs.SpanLaws.{bodies_begin, bodies_more, bodies_skip, all_spans, marked_at, not_marked}
 use Rattle.asl_backward_flow.proofs.span.add_bodies.Goals.{then-inner-number+in_ok-push, else-inner-number}
@@ -13,7 +12,7 @@ loop-number-init c = bodies_begin c.args.lowering.now c.args.spans.now.items c.r
 
 pub bounds-inner-number : goal.bounds-inner-number
 bounds-inner-number c =
-    let few = (kept_layout c.args.lowering.now c.functions-number-end.ensures.kept).limits.few_functions in
+    let few = c.functions-number-end.ensures.kept.layout.limits.few_functions in
     let same = ap length c.functions-number-end.ensures.functions in
     let lt = c.loop-number-test.true in
     omega arith

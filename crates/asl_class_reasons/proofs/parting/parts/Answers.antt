@@ -1,5 +1,4 @@
 use Rattle.std.proofs.Common.{List, sym, subst}
-use Rattle.asl_lower.proofs.Layouts.{kept_layout}
 use Rattle.asl_lower.specs.Lowered.{Lowered}
 use Rattle.asl_class_reasons.specs.declared.flow.Owed.{Owed}
 use Rattle.asl_class_reasons.specs.Without.{without}
@@ -18,7 +17,7 @@ returns-clause-classes c =
     let l = c.args.lowering.now in
     let k : Lowered = without l c.args.pc in
     let w : IsElsewhere c.in_ok-owed.owed.items c.args.pc c.in_ok-elsewhere.elsewhere.items = subst (λ (xs : List Owed). IsElsewhere xs c.args.pc c.in_ok-elsewhere.elsewhere.items) c.deref.ensures.value c.in_ok-elsewhere.ensures in
-    let owed = owed_without l c.args.pc c.in_ok-owed.owed.items c.in_ok-elsewhere.elsewhere.items (kept_layout l c.in_ok-draft.ensures.kept) c.in_ok-owed.ensures w in
+    let owed = owed_without l c.args.pc c.in_ok-owed.owed.items c.in_ok-elsewhere.elsewhere.items c.in_ok-draft.ensures.kept.layout c.in_ok-owed.ensures w in
     let h : IsSettled k c.in_ok-draft.draft = c.in_ok-draft.ensures.settled k (like_without l c.args.pc) (subst (λ (xs : List Owed). IsOwedAll k xs) (sym c.deref-2.ensures.value) owed) in
     let t : IsTold c.in_ok-draft.draft c.args.m c.args.n c.are_apart.result = record { apart = c.are_apart.ensures.apart; one = c.are_apart.ensures.one } in
     told_classes k c.in_ok-draft.draft c.args.m c.args.n c.are_apart.result h t
@@ -28,7 +27,7 @@ returns-clause-apart c =
     let l = c.args.lowering.now in
     let k : Lowered = without l c.args.pc in
     let w : IsElsewhere c.in_ok-owed.owed.items c.args.pc c.in_ok-elsewhere.elsewhere.items = subst (λ (xs : List Owed). IsElsewhere xs c.args.pc c.in_ok-elsewhere.elsewhere.items) c.deref.ensures.value c.in_ok-elsewhere.ensures in
-    let owed = owed_without l c.args.pc c.in_ok-owed.owed.items c.in_ok-elsewhere.elsewhere.items (kept_layout l c.in_ok-draft.ensures.kept) c.in_ok-owed.ensures w in
+    let owed = owed_without l c.args.pc c.in_ok-owed.owed.items c.in_ok-elsewhere.elsewhere.items c.in_ok-draft.ensures.kept.layout c.in_ok-owed.ensures w in
     let h : IsSettled k c.in_ok-draft.draft = c.in_ok-draft.ensures.settled k (like_without l c.args.pc) (subst (λ (xs : List Owed). IsOwedAll k xs) (sym c.deref-2.ensures.value) owed) in
     let t : IsTold c.in_ok-draft.draft c.args.m c.args.n c.are_apart.result = record { apart = c.are_apart.ensures.apart; one = c.are_apart.ensures.one } in
     told_apart k c.in_ok-draft.draft c.args.m c.args.n c.are_apart.result h t
@@ -38,7 +37,7 @@ returns-clause-together c =
     let l = c.args.lowering.now in
     let k : Lowered = without l c.args.pc in
     let w : IsElsewhere c.in_ok-owed.owed.items c.args.pc c.in_ok-elsewhere.elsewhere.items = subst (λ (xs : List Owed). IsElsewhere xs c.args.pc c.in_ok-elsewhere.elsewhere.items) c.deref.ensures.value c.in_ok-elsewhere.ensures in
-    let owed = owed_without l c.args.pc c.in_ok-owed.owed.items c.in_ok-elsewhere.elsewhere.items (kept_layout l c.in_ok-draft.ensures.kept) c.in_ok-owed.ensures w in
+    let owed = owed_without l c.args.pc c.in_ok-owed.owed.items c.in_ok-elsewhere.elsewhere.items c.in_ok-draft.ensures.kept.layout c.in_ok-owed.ensures w in
     let h : IsSettled k c.in_ok-draft.draft = c.in_ok-draft.ensures.settled k (like_without l c.args.pc) (subst (λ (xs : List Owed). IsOwedAll k xs) (sym c.deref-2.ensures.value) owed) in
     let t : IsTold c.in_ok-draft.draft c.args.m c.args.n c.are_apart.result = record { apart = c.are_apart.ensures.apart; one = c.are_apart.ensures.one } in
     told_together k c.in_ok-draft.draft c.args.m c.args.n c.are_apart.result h t

@@ -1,7 +1,6 @@
 use Rattle.std.proofs.Common.{List, length, sym, subst}
 use Rattle.asl_class_reasons.specs.declared.flow.Owed.{Owed}
 use Rattle.asl_class_reasons.specs.Draft.{AreOf, AreOwed}
-use Rattle.asl_lower.proofs.Layouts.{kept_layout}
 use Rattle.asl_class_reasons.proofs.Instructions.{owed_all}
 use Rattle.asl_class_reasons.proofs.Making.{one_of, one_there, all_reasons}
 use Rattle.asl_class_reasons.proofs.LeftOut.{like_self}
@@ -28,6 +27,6 @@ settled-requires c = subst (λ (xs : List Owed). AreOf c.args.lowering.now xs) (
 pub loop-one-init : goal.loop-one-init
 loop-one-init c =
     let l = c.args.lowering.now in
-    let h = kept_layout l c.in_ok-draft.ensures.kept in
+    let h = c.in_ok-draft.ensures.kept.layout in
     let owed : AreOwed l (length l.code) c.deref.result.now = subst (λ (xs : List Owed). AreOwed l (length l.code) xs) (sym c.deref.ensures.value) c.in_ok-owed.ensures in
     c.in_ok-draft.ensures.settled l (like_self l) (owed_all l h c.deref.result.now owed)

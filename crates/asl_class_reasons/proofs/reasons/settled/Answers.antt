@@ -1,16 +1,15 @@
 use Rattle.std.proofs.Common.{◌∙◌, ap, sym, length, arith}
-use Rattle.asl_lower.proofs.Layouts.{kept_layout}
 use Rattle.asl_class_reasons.proofs.Making.{owed_there, is_settled}
 use Rattle.asl_class_reasons.proofs.reasons.settled.Goals as goal
 
 pub overflow_cast-count : goal.overflow_cast-count
 overflow_cast-count c =
-    let h = kept_layout c.args.lowering.now c.functions.ensures.kept in
+    let h = c.functions.ensures.kept.layout in
     omega (arith, h.limits.few_functions, ap length c.functions.ensures.functions)
 
 pub new-requires-clause-functions : goal.new-requires-clause-functions
 new-requires-clause-functions c =
-    let h = kept_layout c.args.lowering.now c.functions.ensures.kept in
+    let h = c.functions.ensures.kept.layout in
     omega (arith, h.limits.few_functions, ap length c.functions.ensures.functions)
 
 pub settle-requires-clause-there : goal.settle-requires-clause-there

@@ -2,7 +2,6 @@ use Rattle.std.proofs.Common.{ℕ, length, ap, ◌∙◌, subst, arith}
 use Rattle.asl_points_to.specs.Flows.{AreFlows}
 use Rattle.asl_points_to.proofs.Owed.{flows_more}
 use Rattle.asl_points_to.proofs.BodyFacts.{body_at, stands_in, start_of_all}
-use Rattle.asl_lower.proofs.Layouts.{kept_layout}
 use Rattle.asl_points_to.proofs.value_flows.program_flows.Goals as goal
 
 pub overflow_add-end : goal.overflow_add-end
@@ -41,7 +40,7 @@ loop-pc-preserved c =
     let f = c.functions-function-items in
     let b = body_at l f.result.now c.loop-number.number (record { params = 0; regs = 0; len = 0 }) f.ensures.kept f.ensures.functions c.loop-number-test.true in
     let s = stands_in l c.loop-number.number c.loop-pc.pc _ c.code-code.result.now _ b c.code-code.ensures.code (omega (arith, c.loop-number.invariant.start)) (omega (arith, c.loop-number.invariant.start)) in
-    flows_more l (kept_layout l f.ensures.kept) c.loop-number.number c.loop-pc.pc _ c.loop-pc.flows.items _ s.3 s.2 c.loop-pc.invariant c.in_ok-push_flows.ensures
+    flows_more l f.ensures.kept.layout c.loop-number.number c.loop-pc.pc _ c.loop-pc.flows.items _ s.3 s.2 c.loop-pc.invariant c.in_ok-push_flows.ensures
 
 pub loop-number-preserved : goal.loop-number-preserved
 loop-number-preserved c =
