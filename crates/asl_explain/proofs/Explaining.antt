@@ -58,9 +58,14 @@ same_lists (x ∷ xs) (y ∷ ys) same each =
     let rest : map (map lock_of) xs ≡ ys = same_lists xs ys (omega (arith, same)) (λ n ls list at with. each (suc n) ls list at with) in
     cc
 
+-- sections with these lists have their locks
+pub own_lists : (x : Read) (lists : List (List Lock)) (sections : List (List Listed)) → length lists ≡ length x.lowered.sections → AreSections x lists (length x.lowered.sections) sections → map (map lock_of) sections ≡ lists
+own_lists x lists sections many all =
+    same_lists sections lists (all.count ∙ sym many) (λ n ls list at with. let s = there lists x.lowered.sections n list many with in (all.each n s.0 list ls s.1 with at).locks)
+
 explained_lists : (x : Read) (lists : List (List Lock)) (sections : List (List Listed)) → length lists ≡ length x.lowered.sections → AreSections x lists (length x.lowered.sections) sections → (image : Image) → image.lists ≡ lists → AreExplained x image sections
 explained_lists x lists sections many all image is = record {
-  lists = same_lists sections lists (all.count ∙ sym many) (λ n ls list at with. let s = there lists x.lowered.sections n list many with in (all.each n s.0 list ls s.1 with at).locks) ∙ sym is;
+  lists = own_lists x lists sections many all ∙ sym is;
   each = λ n s ls i d stands at one. let list = there sections lists n ls (all.count ∙ sym many) at in (all.each n s list.0 ls stands list.1 at).each i d one;
 }
 

@@ -6,6 +6,7 @@ mod Needing
 mod Dropping
 mod Explaining
 mod Pieces
+mod Sectionwise
 mod Walking
 mod Reasons
 mod Lengthening

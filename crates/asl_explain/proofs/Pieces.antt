@@ -1,11 +1,13 @@
 -- Pieces in a text that grows.
-use Rattle.std.proofs.Common.{◌≡◌, ◌+◌, ◌<◌, ◌≤◌, ℕ, zero, suc, List, [], ◌∷◌, ◌++◌, length, take, get_or, append_assoc, refl, sym, ap, ◌∙◌, subst, arith}
+use Rattle.std.proofs.Common.{◌≡◌, ◌+◌, ◌<◌, ◌≤◌, ℕ, suc, List, [], ◌∷◌, ◌++◌, Bool, Option, length, take, get_or, append_assoc, refl, sym, ap, ◌∙◌, subst, arith}
 use Rattle.std.specs.List.{flat_map}
 use Rattle.std.proofs.lemmas.List.{take_more, take_all}
 use Rattle.asl_explain.specs.declared.explained_value.Listed.{Listed}
 use Rattle.asl_explain.specs.declared.class_reasons.ClassTeller.{ClassTeller}
-use Rattle.asl_explain.specs.Told.{StandIn, section_words, count_words}
-use Rattle.asl_explain.specs.Telling.{Tells, all_pieces, pieces_of, section_pieces}
+use Rattle.asl_class_text.specs.declared.facts.Facts.{Facts}
+use Rattle.asl_explain.specs.declared.class_reasons.ClassTold.{ClassTold}
+use Rattle.asl_explain.specs.Told.{StandIn, section_words, count_words, told_of, told_from}
+use Rattle.asl_explain.specs.Telling.{Tells, pieces_of, section_pieces}
 
 pub append_none : {X : Type 0} (xs : List X) → xs ++ [] ≡ xs
 append_none [] = refl
@@ -69,33 +71,17 @@ locks_more made xs i d x old now new lt is before one =
 pub locks_all : (made : Listed → List (List ℕ)) (xs : List Listed) (i : ℕ) (old now : List ℕ) → length xs ≤ i → Tells (flat_map made (take i xs)) old now → Tells (flat_map made xs) old now
 locks_all made xs i old now end t = subst (λ ys. Tells (flat_map made ys) old now) (take_all i xs end) t
 
-length_taken : {X : Type 0} (xs : List X) (i : ℕ) → i < length xs → length (take i xs) ≡ i
-length_taken [] i lt = absurd (omega (arith, lt))
-length_taken (x ∷ xs) zero lt = refl
-length_taken (x ∷ xs) (suc i) lt = ap suc (length_taken xs i (omega (arith, lt)))
+-- the words of one section more
+pub told_more : (f : Facts) (all : Bool) (ts : List (Option ClassTold)) (n : ℕ) (ls : List (List Listed)) (l : List Listed) → told_from f all ts n (ls ++ l ∷ []) ≡ told_from f all ts n ls ++ told_of f all ts (n + length ls) l
+told_more f all ts n [] l =
+    let same : n ≡ n + 0 = omega arith in
+    append_none (told_of f all ts n l) ∙ ap (λ k. told_of f all ts k l) same
+told_more f all ts n (m ∷ ls) l =
+    let next : suc n + length ls ≡ n + suc (length ls) = omega arith in
+    ap (λ (ps : List (List ℕ)). told_of f all ts n m ++ ps) (told_more f all ts (suc n) ls l ∙ ap (λ k. told_from f all ts (suc n) ls ++ told_of f all ts k l) next)
+    ∙ sym (append_assoc (told_of f all ts n m) (told_from f all ts (suc n) ls) (told_of f all ts (n + suc (length ls)) l))
 
 module _ (t : ClassTeller) where
-  -- the words of one section more
-  told_more : (n : ℕ) (ls : List (List Listed)) (l : List Listed) → all_pieces t n (ls ++ l ∷ []) ≡ all_pieces t n ls ++ section_pieces t (n + length ls) l
-  told_more n [] l =
-      let same : n ≡ n + 0 = omega arith in
-      append_none (section_pieces t n l) ∙ ap (λ k. section_pieces t k l) same
-  told_more n (m ∷ ls) l =
-      let next : suc n + length ls ≡ n + suc (length ls) = omega arith in
-      ap (λ (ps : List (List ℕ)). section_pieces t n m ++ ps) (told_more (suc n) ls l ∙ ap (λ k. all_pieces t (suc n) ls ++ section_pieces t k l) next)
-      ∙ sym (append_assoc (section_pieces t n m) (all_pieces t (suc n) ls) (section_pieces t (n + suc (length ls)) l))
-
-  pub sections_more : (xs : List (List Listed)) (i : ℕ) (d x : List Listed) (old now new : List ℕ) → i < length xs → get_or xs i d ≡ x → Tells (all_pieces t 0 (take i xs)) old now → Tells (section_pieces t i x) now new → Tells (all_pieces t 0 (take (i + 1) xs)) old new
-  sections_more xs i d x old now new lt is before one =
-      let more : take (i + 1) xs ≡ take i xs ++ x ∷ [] = take_more xs i d lt ∙ ap (λ y. take i xs ++ y ∷ []) is in
-      let taken = length_taken xs i lt in
-      let place : 0 + length (take i xs) ≡ i = omega (arith, taken) in
-      let whole = ap (all_pieces t 0) more ∙ told_more 0 (take i xs) x ∙ ap (λ k. all_pieces t 0 (take i xs) ++ section_pieces t k x) place in
-      subst (λ ps. Tells ps old new) (sym whole) (tells_then (all_pieces t 0 (take i xs)) (section_pieces t i x) old now new before one)
-
-  pub sections_all : (xs : List (List Listed)) (i : ℕ) (old now : List ℕ) → length xs ≤ i → old ≡ [] → Tells (all_pieces t 0 (take i xs)) old now → StandIn (all_pieces t 0 xs) now
-  sections_all xs i old now end empty h = subst (λ ys. StandIn (all_pieces t 0 ys) now) (take_all i xs end) (tells_whole (all_pieces t 0 (take i xs)) old now empty h)
-
   -- a section: what is before its number, its number, its place, how many locks it takes, the rest of the head, the locks, and the rest
   pub section_told : (n count : ℕ) (xs : List Listed) → count ≡ length xs → (t0 t1 t2 t3 t4 t5 t6 t7 : List ℕ) (between place head rest : List ℕ) → t1 ≡ t0 ++ between → t2 ≡ t1 ++ section_words n → t3 ≡ t2 ++ place → t4 ≡ t3 ++ count_words count → t5 ≡ t4 ++ head
       → Tells (flat_map (pieces_of t n) xs) t5 t6 → t7 ≡ t6 ++ rest → Tells (section_pieces t n xs) t0 t7

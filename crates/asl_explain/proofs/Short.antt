@@ -1,22 +1,27 @@
 -- Where all that is needed has shorter paths, the lists of an analysis are those of other lengths, too.
-use Rattle.std.proofs.Common.{◌≡◌, ◌+◌, ◌<◌, ◌≤◌, ⊎_elim, ℕ, suc, List, length, Some, slice_get, refl, sym, ap, ◌∙◌, subst, arith}
+use Rattle.std.proofs.Common.{◌≡◌, ◌+◌, ◌<◌, ◌≤◌, ⊎_elim, ℕ, suc, List, [], ◌∷◌, ◌++◌, inl, inr, length, Some, slice_get, refl, sym, ap, ◌∙◌, subst, arith}
 use Rattle.std.proofs.lemmas.Option.{same_Some, slice_get_within}
 use Rattle.std.proofs.Math.Nat.{eq-or-lt_of_le}
 use Rattle.asl_code.specs.declared.image.Function.{Function}
 use Rattle.asl_code.specs.declared.lock.Lock.{Lock}
 use Rattle.asl_lower.specs.declared.section.Section.{Section}
 use Rattle.asl_lower.specs.Lowered.{Lowered}
+use Rattle.asl_points_to.specs.Classes.{Classed}
+use Rattle.asl_code.specs.declared.lock.Lock.TheVariants as lock
 use Rattle.asl_lower.specs.Regions.{Region, Body, Inside, IsIn}
 use Rattle.asl_lock_expr.specs.Stores.{stores}
 use Rattle.asl_backward_flow.specs.Needed.{Needed, RegionNeeds, IsInNeeds, IsTold, AreParts}
 use Rattle.asl_backward_flow.proofs.Alike.{tests_same, needed_same}
 use Rattle.asl_backward_flow.proofs.Leasts.{needed_inside}
+use Rattle.asl_backward_flow.specs.Flows.{IsFlow}
 use Rattle.asl_emitter.specs.BuiltImage.{AreFitted}
 use Rattle.asl_explain.specs.declared.explain_analysis.ExplainAnalysis.{ExplainAnalysis}
+use Rattle.asl_explain.specs.declared.explained_value.Lists.{Lists}
 use Rattle.asl_explain.specs.declared.explained_value.Lists.TheVariants.{Inferred}
 use Rattle.asl_explain.specs.Chains.{Read, Needs}
-use Rattle.asl_explain.specs.Analysed.{read, IsAnalysed, AreFittedAt}
+use Rattle.asl_explain.specs.Analysed.{read, IsAnalysed, AreFittedAt, AreEachFitted}
 use Rattle.asl_explain.specs.Lengths.{IsBelow, AreBelow, IsRegionBelow, AreSectionsBelow, AreBodiesBelow, AreNeedsBelow}
+use Rattle.asl_explain.proofs.Ends.{get_more}
 use Rattle.asl_explain.proofs.Lengthening.{same_flow}
 
 -- the locks of the part of a region
@@ -40,6 +45,27 @@ needs_below a limit known sections bodies (Body g) pc lock needed =
     let inside = needed_inside a.lowering a.classes (stores a.writes) a.k_limit (Body g) pc lock needed in
     bodies g (slice_get_within a.lowering.functions g inside.1.2.function inside.1.2.in_table) pc lock ((known.tells (Body g) pc lock).1 needed)
 
+-- all that is needed is in a section or in the body of a function, also by a flow's own test of written classes
+flow_below : (l : Lowered) (c : Classed) (k limit : ℕ) (parts : List RegionNeeds) → (flow : IsFlow l c k parts) → AreSectionsBelow parts limit (length l.sections) → AreBodiesBelow parts limit (length l.functions)
+    → (r : Region) (pc : ℕ) (m : Lock) → Needed l c flow.stores k r pc m → IsBelow limit m
+flow_below l c k limit parts flow sections bodies (Inside n) pc m needed =
+    let inside = needed_inside l c flow.stores k (Inside n) pc m needed in
+    sections n (slice_get_within l.sections n inside.1.is inside.1.in_table) pc m ((flow.tells (Inside n) pc m).1 needed)
+flow_below l c k limit parts flow sections bodies (Body g) pc m needed =
+    let inside = needed_inside l c flow.stores k (Body g) pc m needed in
+    bodies g (slice_get_within l.functions g inside.1.2.function inside.1.2.in_table) pc m ((flow.tells (Body g) pc m).1 needed)
+
+below_longer : (k longer : ℕ) (m : Lock) → k ≤ longer → IsBelow k m → IsBelow (suc longer) m
+below_longer k longer (lock.Root effect) le below = tt
+below_longer k longer (lock.Class x effect) le below = tt
+below_longer k longer (lock.Expr e effect) le below = omega (arith, le, below)
+
+-- a flow whose locks have shorter paths than there may be is that of longer ones
+pub settled_flow : (l : Lowered) (c : Classed) (k : ℕ) (parts : List RegionNeeds) → IsFlow l c k parts → AreSectionsBelow parts k (length l.sections) → AreBodiesBelow parts k (length l.functions) → (longer : ℕ) → k ≤ longer → IsFlow l c longer parts
+settled_flow l c k parts flow sections bodies longer le =
+    let below = flow_below l c k k parts flow sections bodies in
+    same_flow l c k longer parts flow below (λ r pc m h. below_longer k longer m le (below r pc m h))
+
 -- what a flow tells to be needed by its own test of written classes
 alike : (a : ExplainAnalysis) (known : IsAnalysed a) (r : Region) (pc : ℕ) (m : Lock) → Needed a.lowering a.classes known.flow.stores a.k_limit r pc m → Needs (read a) r pc m
 alike a known r pc m h =
@@ -53,3 +79,11 @@ fitted_at a k lists known short within fitted =
       same_flow a.lowering a.classes a.k_limit k a.flow known.flow (λ r pc m h. short r pc m (alike a known r pc m h)) (λ r pc m h. subst (λ n. IsBelow n m) longer (within r pc m (alike a known r pc m h))),
       fitted,
     )
+
+-- lists of one length more
+pub each_fitted_more : (l : Lowered) (c : Classed) (k : ℕ) (old new : List Lists) (one : Lists) → new ≡ old ++ one ∷ [] → length old ≡ k → AreFittedAt l c k one → AreEachFitted l c old → AreEachFitted l c new
+each_fitted_more l c k old new one is long fitted all j other at =
+    elim (get_more old one j other (subst (λ (xs : List Lists). slice_get xs j ≡ Some other) is at)) [
+      | inl h ↦ all j other h
+      | inr h ↦ subst (AreFittedAt l c j) h.1 (subst (λ (m : ℕ). AreFittedAt l c m one) (sym (h.0 ∙ long)) fitted)
+    ]

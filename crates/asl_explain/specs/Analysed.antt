@@ -81,6 +81,10 @@ abbrev pub AreFittedAt : Lowered → Classed → ℕ → Lists → Type 0
 AreFittedAt l c k_limit (Inferred lists) = (parts : List RegionNeeds) × IsFlow l c k_limit parts × AreFitted l c parts (length l.sections) lists
 AreFittedAt l c k_limit (TooManyLocks region) = IsOverfull l c k_limit (region_of region)
 
+-- the lists are fitted with paths of at most `k_limit` operations, and with each greater limit
+abbrev pub AreFittedFrom : Lowered → Classed → ℕ → Lists → Type 0
+AreFittedFrom l c k_limit lists = (longer : ℕ) → k_limit ≤ longer → AreFittedAt l c longer lists
+
 -- the lists at each place are those with paths of at most as many operations
 abbrev pub AreEachFitted : Lowered → Classed → List Lists → Type 0
 AreEachFitted l c all = (k_limit : ℕ) (lists : Lists) → slice_get all k_limit ≡ Some lists → AreFittedAt l c k_limit lists

@@ -1,9 +1,9 @@
 //! Why the members of a class share it, where some list has a lock on the class.
 ghost use Rattle.std.specs.Prelude.{◌≡◌, ◌++◌, IfOk, OnOk, string_bytes};
 ghost use Rattle.std.specs.List.{list_any};
-ghost use Rattle.asl_explain.specs.ClassReasons.{is_on, has_class, first_section, told_at, again_line, block_of, class_block, lock_block, IsToldIn, IsToldIf, AreTold};
+ghost use Rattle.asl_explain.specs.ClassReasons.{is_on, told_at, again_line, block_of, class_block, lock_block, IsToldIn, IsToldIf};
+ghost use Rattle.asl_explain.specs.Telling.{is_listed, first_list, AreToldBy};
 
-use crate::explained_value::Listed;
 use asl_class_text::{Reasoned, ToldClass};
 use asl_code::{Items, Lock};
 use std::alloc::{AllocError, Global};
@@ -44,22 +44,22 @@ fn is_on(class: u16, lock: &Lock) -> bool
 }
 
 /// Whether a list has a lock on the class.
-fn has_class(class: u16, list: &[Listed]) -> bool
-    ensures { result ≡ has_class class list.now }
+fn has_class(class: u16, list: &[Lock]) -> bool
+    ensures { result ≡ is_listed class list.now }
 {
-    for listed in list {
-        if is_on(class, &listed.lock) {
+    for lock in list {
+        if is_on(class, lock) {
             return true;
         }
     }
     false
 }
 
-/// The first of these sections whose list has a lock on the class.
-fn first_section(sections: &[Items<Listed>], class: u16) -> Option<usize>
-    ensures { result ≡ first_section class 0 sections.now }
+/// The first section whose list has a lock on the class.
+fn first_section(lists: &[Items<Lock>], class: u16) -> Option<usize>
+    ensures { result ≡ first_list class 0 lists.now }
 {
-    for (number, list) in sections.iter().enumerate() {
+    for (number, list) in lists.iter().enumerate() {
         if has_class(class, list.as_slice()) {
             return Some(number);
         }
@@ -102,20 +102,20 @@ fn told_if(
     }
 }
 
-/// What is told of the first classes, so many of them.
+/// What is told of the first classes, so many of them, where sections have these lists.
 pub fn told_classes(
     alloc: Global,
     reasoned: &Reasoned<'_>,
     all: bool,
-    sections: &[Items<Listed>],
+    lists: &[Items<Lock>],
     count: u16,
 ) -> Result<Vec<Option<ClassTold>>, AllocError>
-    ensures { IfOk result (λ v. AreTold reasoned.now all sections.now count v.items) }
+    ensures { IfOk result (λ v. AreToldBy reasoned.now all lists.now count v.items) }
 {
     let mut trials = MOST_TRIED;
     let mut told = Vec::new(alloc);
     for class in 0..count {
-        let first = first_section(sections, class);
+        let first = first_section(lists, class);
         let one = told_if(alloc, reasoned, &mut trials, all, class, first)?;
         told.push(one)?;
     }

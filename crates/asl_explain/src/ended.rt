@@ -165,7 +165,7 @@ fn all_ended(
 }
 
 /// The locks that end at a `new` of the section of a number.
-fn ended_of(
+pub(crate) fn ended_of(
     alloc: Global,
     analysis: &ExplainAnalysis,
     searcher: &mut Searcher,

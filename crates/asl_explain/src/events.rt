@@ -1,5 +1,6 @@
 //! The instructions at which something may happen to a lock, by what they mention, so that a search skips the others.
 
+use crate::skips::{Passed, Skips, find_skips};
 use asl_code::{Base, Expr, Instr, Lock, Op};
 use asl_lower::Lowering;
 use std::alloc::{AllocError, Global};
@@ -31,8 +32,10 @@ pub struct Events {
     globals: Vec<Vec<u16>>,
     /// The stores.
     stores: Vec<u16>,
-    /// The calls, jumps and returns.
+    /// The calls and returns.
     turns: Vec<u16>,
+    /// The jumps, and where the ways on from them come together.
+    skips: Skips,
     /// Those that make a path longer.
     lengthening: Vec<u16>,
 }
@@ -163,6 +166,7 @@ pub fn find_events(alloc: Global, lowering: &Lowering) -> Result<Events, AllocEr
         globals: empty_lists(alloc, usize::from(lowering.globals()))?,
         stores: Vec::new(alloc),
         turns: Vec::new(alloc),
+        skips: find_skips(alloc, lowering.code())?,
         lengthening: Vec::new(alloc),
     };
     let mut pc = 0;
@@ -217,10 +221,7 @@ impl Events {
                 add_to(&mut self.globals, usize::from(global), pc)
             }
             Instr::Store { .. } => Ok(self.stores.push(pc)?),
-            Instr::Call { .. }
-            | Instr::Jump { .. }
-            | Instr::JumpIfZero { .. }
-            | Instr::Return { .. } => Ok(self.turns.push(pc)?),
+            Instr::Call { .. } | Instr::Return { .. } => Ok(self.turns.push(pc)?),
             Instr::FieldAddress { .. } | Instr::Load { .. } => Ok(self.lengthening.push(pc)?),
             _ => Ok(()),
         }
@@ -238,9 +239,15 @@ impl Events {
         }
     }
 
-    /// The first instruction from a pc on at which something may happen to a lock of the function: those before it leave the
-    /// lock as it is, need it not, make it of no other, and continue with the next.
-    pub fn next(&self, function: u16, lock: &Lock, pc: u16) -> Option<u16> {
+    /// The first instruction from a pc on at which something may happen to a lock of the function, if all ways lead there; else the first
+    /// jump from which some do not. The instructions before it leave the lock as it is, need it not, and make it of no other.
+    pub fn next(&self, function: u16, lock: &Lock, pc: u16) -> Option<Passed> {
+        let change = self.next_change(function, lock, pc)?;
+        Some(self.skips.pass(pc, change))
+    }
+
+    /// The first instruction from a pc on, other than a jump, at which something may happen to a lock of the function.
+    fn next_change(&self, function: u16, lock: &Lock, pc: u16) -> Option<u16> {
         let turn = first_from(&self.turns, pc);
         let Lock::Expr(expr, _) = lock else {
             return earlier(turn, first_from(&self.lengthening, pc));

@@ -1,23 +1,24 @@
 //! The explanation of a source.
-ghost use Rattle.std.specs.Prelude.{◌≡◌, ◌≤◌, ◌++◌, ℕ, List, IfOk, IfErr, OnOk, string_bytes};
+ghost use Rattle.std.specs.Prelude.{◌≡◌, ◌≤◌, ◌++◌, ℕ, List, IfOk, IfErr, OnOk, length, string_bytes};
 ghost use Rattle.asl_emitter.specs.Sources.{IsAcceptedSource};
 ghost use Rattle.asl_explain.specs.Explained.{IsExplanation, IsRefusedExplanation};
 ghost use Rattle.asl_warnings.specs.Texts.{warnings_text};
-ghost use Rattle.asl_explain.specs.ClassReasons.{AreTold};
-ghost use Rattle.asl_explain.specs.Told.{IsText, StandIn, told_from};
-ghost use Rattle.asl_explain.specs.Analysed.{IsAnalysed, IsOfSource};
-ghost use Rattle.asl_explain.specs.Telling.{IsTextOf};
+ghost use Rattle.asl_explain.specs.Told.{IsText};
+ghost use Rattle.asl_explain.specs.Analysed.{read, IsAnalysed, IsOfSource};
+ghost use Rattle.asl_explain.specs.Telling.{AreToldBy, IsTextOf, TellsSections};
 
 use crate::class_reasons::{ClassTeller, ClassTold, told_classes};
 use crate::explain_analysis::{ExplainAnalysis, analyse};
 use crate::explained_text::text_of;
-use crate::explained_value::Explanation;
+use crate::explained_value::{Explanation, Lists};
 use crate::fault::ExplainFault;
+use crate::lists_by_length::by_length;
 use crate::making::explanation_of;
 use crate::source_places::places_of;
-use crate::text::{Teller, most_explained};
+use crate::text::Teller;
 use asl_class_text::{Reasoned, reasoned_source};
-use asl_emitter::InferFault;
+use asl_code::{Items, Lock};
+use asl_emitter::{InferFault, lists};
 use asl_syntax::parse;
 use asl_warnings::warnings_text;
 use std::alloc::{AllocError, Global};
@@ -50,7 +51,7 @@ pub fn explain(alloc: Global, source: &[u8], k: u32) -> Result<Explanation, Expl
     ensures refused { IfErr result (IsRefusedExplanation source.now k) }
 {
     let analysis = analysis_of(alloc, source, k)?;
-    match explanation_of(alloc, &analysis, usize::MAX) {
+    match explanation_of(alloc, &analysis) {
         Ok(explanation) => Ok(explanation),
         Err(_) => Err(ExplainFault::Infer(InferFault::OutOfMemory)),
     }
@@ -84,47 +85,61 @@ fn told(
     requires { IsAnalysed analysis.now }
     ensures { IfOk result (λ text. IsTextOf analysis.now source.now all (string_bytes text)) }
 {
-    let explanation = explanation_of(alloc, analysis, most_explained(all))?;
+    let inferred = lists(alloc, &analysis.lowering, &analysis.classes, &analysis.flow)?;
+    let own = inferred.as_slice();
+    let by_length = by_length(alloc, analysis, own)?;
     let Ok(reasoned) = reasoned_source(alloc, source) else {
         return Err(AllocError);
     };
-    let told = told_of(alloc, &reasoned, &explanation, all)?;
-    let mut text = lists_text(alloc, source, analysis, &explanation, &reasoned, &told, all)?;
+    let told = told_of(alloc, &reasoned, own, all)?;
+    let mut text = lists_text(
+        alloc,
+        source,
+        analysis,
+        own,
+        by_length.as_slice(),
+        &reasoned,
+        &told,
+        all,
+    )?;
     push_warnings(alloc, &mut text, &reasoned)?;
     Ok(text)
 }
 
-/// What is told of the classes on which the lists of an explanation have locks.
+/// What is told of the classes on which the lists have locks.
 fn told_of(
     alloc: Global,
     reasoned: &Reasoned<'_>,
-    explanation: &Explanation,
+    lists: &[Items<Lock>],
     all: bool,
 ) -> Result<Vec<Option<ClassTold>>, AllocError>
-    ensures { IfOk result (λ v. AreTold reasoned.now all explanation.now.sections reasoned.now.known.facts.count v.items) }
+    ensures { IfOk result (λ v. AreToldBy reasoned.now all lists.now reasoned.now.known.facts.count v.items) }
 {
-    let sections = explanation.sections.as_slice();
     let known = reasoned.known();
-    told_classes(alloc, reasoned, all, sections, known.facts.count)
+    told_classes(alloc, reasoned, all, lists, known.facts.count)
 }
 
-/// The text of the lists of an explanation.
+/// The text of the lists of an analysis, which are these, and those of each length.
 fn lists_text(
     alloc: Global,
     source: &[u8],
     analysis: &ExplainAnalysis,
-    explanation: &Explanation,
+    lists: &[Items<Lock>],
+    by_length: &[Lists],
     reasoned: &Reasoned<'_>,
     told: &[Option<ClassTold>],
     all: bool,
 ) -> Result<String, AllocError>
-    ensures { IfOk result (λ text. StandIn (told_from reasoned.now.known.facts all told.now 0 explanation.now.sections) (string_bytes text)) }
+    requires analysed { IsAnalysed analysis.now }
+    requires count { length lists.now ≡ length analysis.now.lowering.sections }
+    ensures { IfOk result (λ text. TellsSections (read analysis.now) lists.now reasoned.now.known.facts all told.now (length analysis.now.lowering.sections) (string_bytes text)) }
 {
     let places = places_of(alloc, source, &reasoned.known().facts.map)?;
     let teller = Teller {
         alloc,
         analysis,
         places: &places,
+        by_length,
         all,
     };
     let classes = ClassTeller {
@@ -132,7 +147,7 @@ fn lists_text(
         told,
         all,
     };
-    text_of(&teller, &classes, explanation)
+    text_of(&teller, analysis, &classes, lists)
 }
 
 /// Adds what the source may lack, behind an empty line where something stands before it.

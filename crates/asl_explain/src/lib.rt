@@ -19,6 +19,7 @@ mod notes;
 mod region_table;
 mod search;
 mod short_paths;
+mod skips;
 mod source_places;
 mod stretch;
 mod text;

@@ -1,13 +1,15 @@
 //! The lists of a program for each length of paths.
 ghost use Rattle.std.specs.Prelude.{◌≡◌, ◌≤◌, ◌+◌, IfOk, OnOk, IsTrue, length};
+ghost use Rattle.asl_lower.specs.Lowered.{Lowered};
+ghost use Rattle.asl_points_to.specs.Classes.{Classed};
 ghost use Rattle.asl_emitter.specs.BuiltImage.{AreFitted};
-ghost use Rattle.asl_explain.specs.Analysed.{read, IsAnalysed, AreEachFitted, AreFittedAt};
+ghost use Rattle.asl_explain.specs.Analysed.{read, IsAnalysed, AreEachFitted, AreFittedAt, AreFittedFrom};
 ghost use Rattle.asl_explain.specs.Lengths.{AreNeedsBelow};
 
 use crate::explain_analysis::ExplainAnalysis;
 use crate::explained_value::Lists;
 use crate::links::copied;
-use crate::short_paths::are_needs_below;
+use crate::short_paths::{are_needs_below, is_settled};
 use asl_backward_flow::{FlowFault, needed};
 use asl_code::{Items, Lock};
 use asl_emitter::lists;
@@ -35,6 +37,23 @@ fn same_lists(alloc: Global, lists: &[Items<Lock>]) -> Result<Items<Items<Lock>>
     Ok(Items::from_vec(copies))
 }
 
+/// The same lists, or that the same region needs too many locks.
+fn same_as(alloc: Global, lists: &Lists) -> Result<Lists, AllocError>
+    ensures { IfOk result (λ copy. copy ≡ lists.now) }
+{
+    match lists {
+        Lists::Inferred(lists) => Ok(Lists::Inferred(same_lists(alloc, lists.as_slice())?)),
+        Lists::TooManyLocks(region) => Ok(Lists::TooManyLocks(*region)),
+    }
+}
+
+/// The lists with paths of at most so many operations, and whether they are known to be those with longer ones, too.
+#[derive(Drop)]
+struct AtLength {
+    lists: Lists,
+    is_last: bool,
+}
+
 /// Whether all that is needed has shorter paths than it may have, and none of more operations than so many: then it is the same with
 /// paths of at most so many.
 fn is_same(analysis: &ExplainAnalysis, k_limit: u32) -> bool
@@ -52,30 +71,69 @@ fn lists_at(
     analysis: &ExplainAnalysis,
     own: &[Items<Lock>],
     k_limit: u32,
-) -> Result<Lists, AllocError>
+) -> Result<AtLength, AllocError>
     requires analysed { IsAnalysed analysis.now }
     requires own { AreFitted analysis.now.lowering analysis.now.classes analysis.now.flow (length analysis.now.lowering.sections) own.now }
     requires short { k_limit ≤ 8 }
-    ensures { IfOk result (AreFittedAt analysis.now.lowering analysis.now.classes k_limit) }
+    ensures lists { IfOk result (λ at. AreFittedAt analysis.now.lowering analysis.now.classes k_limit at.lists) }
+    ensures longer { IfOk result (λ at. IsTrue at.is_last → AreFittedFrom analysis.now.lowering analysis.now.classes k_limit at.lists) }
 {
     if is_same(analysis, k_limit) {
-        return Ok(Lists::Inferred(same_lists(alloc, own)?));
+        return Ok(AtLength {
+            lists: Lists::Inferred(same_lists(alloc, own)?),
+            is_last: false,
+        });
     }
     inferred_at(alloc, analysis, k_limit)
 }
 
 /// The lists that are inferred with paths of at most so many operations.
-fn inferred_at(alloc: Global, analysis: &ExplainAnalysis, k_limit: u32) -> Result<Lists, AllocError>
+fn inferred_at(
+    alloc: Global,
+    analysis: &ExplainAnalysis,
+    k_limit: u32,
+) -> Result<AtLength, AllocError>
     requires analysed { IsAnalysed analysis.now }
     requires short { k_limit ≤ 8 }
-    ensures { IfOk result (AreFittedAt analysis.now.lowering analysis.now.classes k_limit) }
+    ensures lists { IfOk result (λ at. AreFittedAt analysis.now.lowering analysis.now.classes k_limit at.lists) }
+    ensures longer { IfOk result (λ at. IsTrue at.is_last → AreFittedFrom analysis.now.lowering analysis.now.classes k_limit at.lists) }
 {
     let (lowering, classes) = (&analysis.lowering, &analysis.classes);
     match needed(alloc, lowering, classes, k_limit) {
-        Ok(flow) => Ok(Lists::Inferred(lists(alloc, lowering, classes, &flow)?)),
-        Err(FlowFault::TooManyLocks(region)) => Ok(Lists::TooManyLocks(region)),
+        Ok(flow) => {
+            let is_last = is_settled(&flow, lowering, classes, k_limit);
+            let inferred = lists(alloc, lowering, classes, &flow)?;
+            let lists = Lists::Inferred(inferred);
+            Ok(AtLength { lists, is_last })
+        }
+        Err(FlowFault::TooManyLocks(region)) => {
+            let lists = Lists::TooManyLocks(region);
+            Ok(AtLength {
+                lists,
+                is_last: false,
+            })
+        }
         Err(FlowFault::OutOfMemory) => Err(AllocError),
     }
+}
+
+/// Adds these lists for each number from the first up to the last, which is left out.
+fn add_same(
+    alloc: Global,
+    lists: &Lists,
+    first: u32,
+    last: u32,
+    by_length: &mut Vec<Lists>,
+) -> Result<(), AllocError>
+    requires order { first ≤ last }
+    requires count { length by_length.old.items ≡ first }
+    ensures count { OnOk result (length by_length.new.items ≡ last) }
+    ensures each { OnOk result ((l : Lowered) (c : Classed) → AreFittedFrom l c first lists.now → AreEachFitted l c by_length.old.items → AreEachFitted l c by_length.new.items) }
+{
+    for _ in first..last {
+        by_length.push(same_as(alloc, lists)?)?;
+    }
+    Ok(())
 }
 
 /// Adds the lists with paths of at most so many operations, for each number from the first up to the last, which is left out.
@@ -97,7 +155,12 @@ fn add_lists(
     ensures each { OnOk result (AreEachFitted analysis.now.lowering analysis.now.classes by_length.new.items) }
 {
     for k_limit in first..last {
-        by_length.push(lists_at(alloc, analysis, own, k_limit)?)?;
+        let AtLength { lists, is_last } = lists_at(alloc, analysis, own, k_limit)?;
+        if is_last {
+            add_same(alloc, &lists, k_limit, last, by_length)?;
+            return Ok(());
+        }
+        by_length.push(lists)?;
     }
     Ok(())
 }
@@ -106,24 +169,17 @@ fn add_lists(
 pub(crate) fn by_length(
     alloc: Global,
     analysis: &ExplainAnalysis,
-    own: Items<Items<Lock>>,
+    own: &[Items<Lock>],
 ) -> Result<Items<Lists>, AllocError>
     requires analysed { IsAnalysed analysis.now }
-    requires own { AreFitted analysis.now.lowering analysis.now.classes analysis.now.flow (length analysis.now.lowering.sections) own }
+    requires own { AreFitted analysis.now.lowering analysis.now.classes analysis.now.flow (length analysis.now.lowering.sections) own.now }
     ensures count { IfOk result (λ lists. length lists ≡ 9) }
     ensures each { IfOk result (AreEachFitted analysis.now.lowering analysis.now.classes) }
 {
     let mut by_length = Vec::new(alloc);
     let k_limit = analysis.k_limit;
-    add_lists(alloc, analysis, own.as_slice(), 0, k_limit, &mut by_length)?;
-    by_length.push(Lists::Inferred(same_lists(alloc, own.as_slice())?))?;
-    add_lists(
-        alloc,
-        analysis,
-        own.as_slice(),
-        k_limit + 1,
-        9,
-        &mut by_length,
-    )?;
+    add_lists(alloc, analysis, own, 0, k_limit, &mut by_length)?;
+    by_length.push(Lists::Inferred(same_lists(alloc, own)?))?;
+    add_lists(alloc, analysis, own, k_limit + 1, 9, &mut by_length)?;
     Ok(Items::from_vec(by_length))
 }

@@ -76,33 +76,35 @@ fn under(
     Ok(under)
 }
 
-/// A lock with the chains that come to it at the section's start.
+/// A lock under one of the section's list, with the chains that come to it at the section's start.
 fn find_need(
     alloc: Global,
     analysis: &ExplainAnalysis,
     searcher: &mut Searcher,
     number: u16,
     section: Section,
+    listed: &Lock,
     lock: &Lock,
 ) -> Result<Need, AllocError>
     requires { IsAnalysed analysis.now }
     ensures lock { IfOk result (λ d. d.lock ≡ lock.now) }
     ensures chains { IfOk result (λ d. AreChains (read analysis.now) (Inside number) (suc section.acquire) lock.now d.chains) }
 {
-    let found = searcher.chains(analysis, number, section, lock)?;
+    let found = searcher.chains(analysis, number, section, listed, lock)?;
     Ok(Need {
         lock: copied(lock)?,
         chains: confirmed(alloc, analysis, number, section.acquire, lock, found)?,
     })
 }
 
-/// The locks, each with the chains that come to it at the section's start.
+/// The locks under one of the section's list, each with the chains that come to it at the section's start.
 fn needs_of(
     alloc: Global,
     analysis: &ExplainAnalysis,
     searcher: &mut Searcher,
     number: u16,
     section: Section,
+    listed: &Lock,
     locks: &[Lock],
 ) -> Result<Items<Need>, AllocError>
     requires analysed { IsAnalysed analysis.now }
@@ -112,9 +114,9 @@ fn needs_of(
     ensures same { IfOk result (λ needs. locks_of needs ≡ locks.now) }
 {
     let mut needs = Vec::with_capacity(alloc, locks.len())?;
-    searcher.begin_needs();
+    searcher.begin_needs()?;
     for lock in locks {
-        needs.push(find_need(alloc, analysis, searcher, number, section, lock)?)?;
+        needs.push(find_need(alloc, analysis, searcher, number, section, listed, lock)?)?;
     }
     Ok(Items::from_vec(needs))
 }
@@ -138,7 +140,7 @@ fn list_lock(
     let under = under(alloc, &analysis.classes, section.function, lock, all)?;
     Ok(Listed {
         lock: copied(lock)?,
-        needs: needs_of(alloc, analysis, searcher, number, section, &under)?,
+        needs: needs_of(alloc, analysis, searcher, number, section, lock, &under)?,
     })
 }
 
@@ -165,7 +167,7 @@ fn all_listed(
 }
 
 /// The locks of the list of a section.
-fn explained_section(
+pub(crate) fn explained_section(
     alloc: Global,
     analysis: &ExplainAnalysis,
     searcher: &mut Searcher,
@@ -176,6 +178,7 @@ fn explained_section(
     requires { IsAnalysed analysis.now }
     ensures { IfOk result (AreListed (read analysis.now) number section list.now) }
 {
+    searcher.begin_section();
     let start = u32::from(section.acquire) + 1;
     let all = analysis.flow.at(alloc, Region::Section(number), start)?;
     all_listed(alloc, analysis, searcher, number, section, &all, list)
@@ -201,21 +204,16 @@ fn explained_sections(
     Ok(Items::from_vec(sections))
 }
 
-/// Why the lists of a program are as they are, with the chains of so many needs under a lock of a list, the first of them.
-pub fn explanation_of(
-    alloc: Global,
-    analysis: &ExplainAnalysis,
-    most: usize,
-) -> Result<Explanation, AllocError>
+/// Why the lists of a program are as they are, with all chains.
+pub fn explanation_of(alloc: Global, analysis: &ExplainAnalysis) -> Result<Explanation, AllocError>
     requires { IsAnalysed analysis.now }
     ensures { IfOk result (IsMade analysis.now) }
 {
     let own = lists(alloc, &analysis.lowering, &analysis.classes, &analysis.flow)?;
     let mut searcher = Searcher::new(alloc, analysis)?;
-    searcher.tell_first(most);
     Ok(Explanation {
         sections: explained_sections(alloc, analysis, &mut searcher, own.as_slice())?,
         ended: ended_of_sections(alloc, analysis, &mut searcher)?,
-        by_length: by_length(alloc, analysis, own)?,
+        by_length: by_length(alloc, analysis, own.as_slice())?,
     })
 }

@@ -1,11 +1,16 @@
-//! The search for the statements that need a lock of a section's start: forward over the code and into calls.
+//! The search for the statements that need a lock of a section's start: forward over the code and into calls. Nothing is proved of what it
+//! finds: each chain is looked at again before it is kept (`confirm.rt`).
 ghost use Rattle.asl_explain.specs.Analysed.{IsAnalysed};
 
 mod chains;
 mod graph;
 mod nodes;
+mod others;
 mod point;
 mod points;
+mod seek;
+mod statements;
+mod trees;
 mod ways;
 
 use crate::confirm::{is_on, made_at};
@@ -13,7 +18,10 @@ use crate::explain_analysis::ExplainAnalysis;
 use crate::explained_value::{Chain, Ending, Why};
 use crate::search::graph::Graph;
 use crate::search::nodes::{Cost, Nodes, Way};
+pub use crate::search::others::Others;
 use crate::search::point::{Point, needed_point};
+pub use crate::search::statements::Statements;
+use crate::search::trees::Trees;
 use asl_code::Lock;
 use asl_lower::Section;
 use std::alloc::{AllocError, Global};
@@ -31,15 +39,16 @@ struct Waiting {
 
 /// A change of the lock on the way on from a section's start: the point before it, and the change before that.
 #[derive(Clone, Copy)]
-struct Change {
+pub(crate) struct Change {
     point: Point,
     why: Why,
     earlier: Option<usize>,
 }
 
-/// A statement that needs the lock: the point of its access, and the last change on the way to it.
+/// A statement that needs the lock: the point of its access, what the way to it costs, and the last change on it.
 #[derive(Clone, Copy)]
 struct Access {
+    cost: Cost,
     point: Point,
     last: Option<usize>,
 }
@@ -53,6 +62,12 @@ struct LockSearch {
     /// For each pc the number of the last search that found its statement.
     statements: Vec<u32>,
     accesses: Vec<Access>,
+    /// Whether the bodies that the section calls are left for later.
+    is_outside: bool,
+    /// The place of the section in the flow.
+    place: u16,
+    /// The entries of bodies that are left for later.
+    entries: Vec<Waiting>,
 }
 
 /// The searches of a program, one after the other.
@@ -64,10 +79,18 @@ pub struct Searcher {
     /// The ways on from the point that is looked at.
     ways: Vec<Way>,
     search: LockSearch,
-    /// Of how many needs under a lock of a list chains are told.
+    /// Of how many needs under a lock of a list statements are sought.
     most: usize,
-    /// Of how many of these needs chains are still to be told.
+    /// For how many more of these needs statements are to be sought.
     left: usize,
+    /// Whether all chains are kept.
+    keeps_all: bool,
+    /// Whether a chain is kept of some need under the lock.
+    is_kept: bool,
+    /// The statements of which no chain is kept.
+    others: Others,
+    /// What was found in bodies, where not all chains are kept.
+    trees: Trees,
 }
 
 /// No search of a program of so many instructions.
@@ -82,6 +105,9 @@ fn no_search(alloc: Global, count: usize) -> Result<LockSearch, AllocError> {
         changes: Vec::new(alloc),
         statements,
         accesses: Vec::new(alloc),
+        is_outside: false,
+        place: 0,
+        entries: Vec::new(alloc),
     })
 }
 
@@ -92,6 +118,7 @@ impl LockSearch {
         self.waiting.clear();
         self.changes.clear();
         self.accesses.clear();
+        self.entries.clear();
     }
 
     /// Notes a change, and returns its number.
@@ -135,26 +162,45 @@ impl Searcher {
             search: no_search(alloc, analysis.lowering.code().len())?,
             most: usize::MAX,
             left: usize::MAX,
+            keeps_all: true,
+            is_kept: false,
+            others: Others::new(alloc),
+            trees: Trees::new(alloc),
         })
     }
 
-    /// From now on chains are told of the first needs under a lock of a list alone, so many of them.
+    /// From now on only the first needs under a lock of a list are sought, so many of them. One chain is kept of the lock itself, and one
+    /// of the first need that has any; of all other statements it is noted where they stand.
     pub fn tell_first(&mut self, most: usize) {
         self.most = most;
+        self.keeps_all = false;
+    }
+
+    /// Begins with another section.
+    pub fn begin_section(&mut self) {
+        self.others.clear();
     }
 
     /// Begins with the needs under another lock of a list.
-    pub fn begin_needs(&mut self) {
+    pub fn begin_needs(&mut self) -> Result<(), AllocError> {
         self.left = self.most;
+        self.is_kept = false;
+        self.others.begin_lock()
     }
 
-    /// The chains of a lock that the section of a number needs at its start, one for each statement that needs it, the cheapest first;
-    /// none where those of enough needs are told.
+    /// The statements of which no chain is kept, of the needs under the locks of the section's list.
+    pub fn others(&self) -> &Others {
+        &self.others
+    }
+
+    /// The chains of a lock that the section of a number needs at its start, one for each statement that needs it, the cheapest first, as far
+    /// as they are to be kept; none where the statements of enough needs are sought. `listed` is the lock of the list under which it stands.
     pub fn chains(
         &mut self,
         analysis: &ExplainAnalysis,
         number: u16,
         section: Section,
+        listed: &Lock,
         lock: &Lock,
     ) -> Result<Vec<Chain>, AllocError>
         requires { IsAnalysed analysis.now }
@@ -163,18 +209,45 @@ impl Searcher {
             return Ok(Vec::new(self.alloc));
         }
         self.left = self.left.saturating_sub(1);
+        if !self.keeps_all {
+            return self.shown_chain(analysis, number, section, listed, lock);
+        }
+        self.begin_at_start(analysis, number, section, lock)?;
+        self.go_on(analysis, usize::MAX)?;
+        self.chains_of(analysis, self.search.accesses.len())
+    }
+
+    /// Begins with a lock at the start of the section of a number.
+    fn begin_at_start(
+        &mut self,
+        analysis: &ExplainAnalysis,
+        number: u16,
+        section: Section,
+        lock: &Lock,
+    ) -> Result<(), AllocError>
+        requires { IsAnalysed analysis.now }
+    {
         self.begin();
         if let Some(place) = self
             .graph
             .enter_section(analysis, number, section.function)?
         {
+            self.search.place = place;
             let start = section.acquire.saturating_add(1);
             if let Some(from) = needed_point(analysis, place, start, lock) {
                 self.begin_at(analysis, from, None)?;
             }
         }
-        self.go_on(analysis, usize::MAX)?;
-        self.chains_of(analysis)
+        Ok(())
+    }
+
+    /// How many of so many chains are kept of a need, which may be that of the lock of the list itself.
+    fn count_kept(&mut self, count: usize, is_listed: bool) -> usize {
+        if count == 0 || (self.is_kept && !is_listed) {
+            return 0;
+        }
+        self.is_kept = true;
+        1
     }
 
     /// The cheapest chain of a lock that the section of a number needs after one of its `new`, which sets the register on which the

@@ -1,6 +1,7 @@
 //! Whether all that is needed has shorter paths than there may be, so that it is the same with longer ones.
-ghost use Rattle.std.specs.Prelude.{◌≡◌, ◌≤◌, IsTrue, IfOk, length};
+ghost use Rattle.std.specs.Prelude.{◌≡◌, ◌≤◌, ℕ, IsTrue, IfOk, length};
 ghost use Rattle.asl_lower.specs.Regions.{Inside, Body};
+ghost use Rattle.asl_backward_flow.specs.Flows.{IsFlow};
 ghost use Rattle.asl_backward_flow.specs.Needed.{AreParts, region_of};
 ghost use Rattle.asl_explain.specs.Analysed.{read, IsAnalysed};
 ghost use Rattle.asl_explain.specs.Lengths.{IsBelow, AreBelow, IsRegionBelow, AreSectionsBelow, AreBodiesBelow, AreNeedsBelow};
@@ -8,6 +9,8 @@ ghost use Rattle.asl_explain.specs.Lengths.{IsBelow, AreBelow, IsRegionBelow, Ar
 use crate::explain_analysis::ExplainAnalysis;
 use asl_backward_flow::{Flow, Region};
 use asl_code::Lock;
+use asl_lower::Lowering;
+use asl_points_to::Classes;
 
 /// Whether the lock has a path of fewer operations than so many, if it is on an expression.
 fn is_below(limit: usize, lock: &Lock) -> bool
@@ -43,12 +46,12 @@ fn is_region_below(flow: &Flow, limit: usize, region: Region) -> bool
 }
 
 /// So each lock that a section needs.
-fn are_sections_below(analysis: &ExplainAnalysis, limit: usize) -> bool
-    requires { IsAnalysed analysis.now }
-    ensures { IsTrue result → AreSectionsBelow analysis.now.flow limit (length analysis.now.lowering.sections) }
+fn are_sections_below(flow: &Flow, lowering: &Lowering, limit: usize) -> bool
+    requires { AreParts flow.now }
+    ensures { IsTrue result → AreSectionsBelow flow.now limit (length lowering.now.sections) }
 {
-    for number in 0..analysis.lowering.sections().len() {
-        if !is_region_below(&analysis.flow, limit, Region::Section(number as u16)) {
+    for number in 0..lowering.sections().len() {
+        if !is_region_below(flow, limit, Region::Section(number as u16)) {
             return false;
         }
     }
@@ -56,12 +59,12 @@ fn are_sections_below(analysis: &ExplainAnalysis, limit: usize) -> bool
 }
 
 /// So each lock that the body of a function needs.
-fn are_bodies_below(analysis: &ExplainAnalysis, limit: usize) -> bool
-    requires { IsAnalysed analysis.now }
-    ensures { IsTrue result → AreBodiesBelow analysis.now.flow limit (length analysis.now.lowering.functions) }
+fn are_bodies_below(flow: &Flow, lowering: &Lowering, limit: usize) -> bool
+    requires { AreParts flow.now }
+    ensures { IsTrue result → AreBodiesBelow flow.now limit (length lowering.now.functions) }
 {
-    for number in 0..analysis.lowering.functions().len() {
-        if !is_region_below(&analysis.flow, limit, Region::Body(number as u16)) {
+    for number in 0..lowering.functions().len() {
+        if !is_region_below(flow, limit, Region::Body(number as u16)) {
             return false;
         }
     }
@@ -73,5 +76,16 @@ pub fn are_needs_below(analysis: &ExplainAnalysis, limit: usize) -> bool
     requires { IsAnalysed analysis.now }
     ensures { IsTrue result → AreNeedsBelow (read analysis.now) limit }
 {
-    are_sections_below(analysis, limit) && are_bodies_below(analysis, limit)
+    let (flow, lowering) = (&analysis.flow, &analysis.lowering);
+    are_sections_below(flow, lowering, limit) && are_bodies_below(flow, lowering, limit)
+}
+
+/// Whether all that is needed by a flow with paths of at most so many operations has shorter ones. Then it is needed with longer ones, too,
+/// and no more is.
+pub fn is_settled(flow: &Flow, lowering: &Lowering, classes: &Classes, k_limit: u32) -> bool
+    requires { IsFlow lowering.now classes.now k_limit flow.now }
+    ensures { IsTrue result → (longer : ℕ) → k_limit ≤ longer → IsFlow lowering.now classes.now longer flow.now }
+{
+    let limit = k_limit as usize;
+    are_sections_below(flow, lowering, limit) && are_bodies_below(flow, lowering, limit)
 }

@@ -5,7 +5,7 @@ mod classes;
 mod lists;
 
 use crate::explain_analysis::ExplainAnalysis;
-use crate::explained_value::{Ended, Ending, Explanation, Listed};
+use crate::explained_value::{Ended, Ending, Listed, Lists};
 use crate::source_places::Places;
 use asl_backward_flow::Region;
 use asl_code::{Base, Lock};
@@ -15,7 +15,7 @@ use std::alloc::{AllocError, Global};
 use std::fmt::Write;
 
 /// The most members of a class, or statements, that are named where not all are to be.
-const MAX_NAMED: usize = 8;
+pub(crate) const MAX_NAMED: usize = 8;
 
 /// Of how many locks under another the statements are named where not all are to be.
 const MAX_CONTAINED: usize = 6;
@@ -29,14 +29,14 @@ pub struct Teller<'a> {
     pub alloc: Global,
     pub analysis: &'a ExplainAnalysis,
     pub places: &'a Places<'a>,
+    /// The lists with paths of at most 0 to 8 operations.
+    pub by_length: &'a [Lists],
     /// Whether every chain is told.
     pub all: bool,
 }
 
-/// Of how many locks under another chains are told: of one the chain itself, and of others the statements.
-pub fn most_explained(all: bool) -> usize {
-    if all { usize::MAX } else { MAX_CONTAINED + 1 }
-}
+/// Of how many locks under another statements are told where not all are to be: of one a chain, and of the others the statements alone.
+pub const MAX_EXPLAINED: usize = MAX_CONTAINED + 1;
 
 /// A number of a table, each of which has at most 65,536.
 fn narrow(number: usize) -> u16 {
@@ -124,14 +124,12 @@ impl Teller<'_> {
         &self,
         number: usize,
         section: Section,
-        explanation: &Explanation,
+        ended: &[Ended],
     ) -> Result<String, AllocError> {
         let mut text = String::new(self.alloc);
-        if let Some(ended) = explanation.ended.as_slice().get(number) {
-            self.push_ended(&mut text, section.function, ended.as_slice())?;
-        }
+        self.push_ended(&mut text, section.function, ended)?;
         text.push_str("\n")?;
-        self.push_lengths(&mut text, number, section.function, explanation)?;
+        self.push_lengths(&mut text, number, section.function)?;
         Ok(text)
     }
 

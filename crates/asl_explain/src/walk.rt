@@ -1,7 +1,9 @@
 //! Whether a lock stays as it is on a way from one pc of a region to another.
-ghost use Rattle.std.specs.Prelude.{◌≡◌, ◌<◌, ◌≤◌, ◌⊎◌, ℕ, suc, IfOk, IfSome, OnOk, IsTrue, length, slice_get};
+ghost use Rattle.std.specs.Prelude.{◌≡◌, ◌<◌, ◌≤◌, ◌⊎◌, ℕ, suc, List, Some, IfOk, IfSome, OnOk, IsTrue, length, slice_get};
+ghost use Rattle.asl_code.specs.declared.instr.Instr.{Instr as AnyInstr};
 ghost use Rattle.asl_code.specs.declared.instr.Instr.TheVariants.{Release};
 ghost use Rattle.asl_code.specs.declared.lock.Lock.{Lock as AnyLock};
+ghost use Rattle.asl_lower.specs.Lowered.{Lowered};
 ghost use Rattle.asl_lower.specs.OpenSections.{FlowsTo};
 ghost use Rattle.asl_lock_expr.specs.Links.{LinkContext as Context, IsOne, link, view};
 ghost use Rattle.asl_lock_expr.specs.LinksView.{seen};
@@ -159,10 +161,24 @@ fn next_stop(
     Ok(None)
 }
 
-/// Puts where control continues from a pc among the pcs that wait, but for those that have waited before.
+/// Puts a pc among those that wait, unless it has waited before.
+fn add_next(next: u16, seen: &mut HashSet<u16>, waiting: &mut Vec<u16>) -> Result<(), AllocError>
+    ensures { OnOk result ((l : Lowered) (pc : ℕ) (old : List ℕ) → ((i : AnyInstr) → slice_get l.code pc ≡ Some i → FlowsTo i pc next)
+        → AreFrom l pc old waiting.old.items → AreFrom l pc old waiting.new.items) }
+{
+    if !seen.insert(next)? {
+        return Ok(());
+    }
+    waiting.push(next)?;
+    Ok(())
+}
+
+/// Puts where control continues from a pc among the pcs that wait, but for those that have waited before. The last is looked at first:
+/// where a jump leads as far as `to` or less, that is its target, so that what it passes over is looked at only where no other way is.
 fn add_successors(
     analysis: &ExplainAnalysis,
     pc: u16,
+    to: u16,
     seen: &mut HashSet<u16>,
     waiting: &mut Vec<u16>,
 ) -> Result<(), AllocError>
@@ -170,11 +186,17 @@ fn add_successors(
     ensures { OnOk result (AreFrom analysis.now.lowering pc waiting.old.items waiting.new.items) }
 {
     let successors = analysis.lowering.successors(pc);
-    for next in successors.as_slice() {
-        if seen.insert(*next)? {
-            waiting.push(*next)?;
-        }
+    let nexts = successors.as_slice();
+    let (Some(first), Some(last)) = (nexts.first(), nexts.last()) else {
+        return Ok(());
+    };
+    if *first <= to {
+        add_next(*last, seen, waiting)?;
+        add_next(*first, seen, waiting)?;
+        return Ok(());
     }
+    add_next(*first, seen, waiting)?;
+    add_next(*last, seen, waiting)?;
     Ok(())
 }
 
@@ -185,6 +207,7 @@ fn go_on(
     span: Span,
     lock: &Lock,
     pc: u16,
+    to: u16,
     seen: &mut HashSet<u16>,
     waiting: &mut Vec<u16>,
 ) -> Result<(), AllocError>
@@ -197,7 +220,7 @@ fn go_on(
         return Ok(());
     };
     if is_kept(alloc, &analysis.view(span.function), &instr, lock)? {
-        add_successors(analysis, pc, seen, waiting)?;
+        add_successors(analysis, pc, to, seen, waiting)?;
     }
     Ok(())
 }
@@ -224,7 +247,16 @@ fn is_reached(
             if stop == to {
                 return Ok(true);
             }
-            go_on(alloc, analysis, span, lock, stop, &mut seen, &mut waiting)?;
+            go_on(
+                alloc,
+                analysis,
+                span,
+                lock,
+                stop,
+                to,
+                &mut seen,
+                &mut waiting,
+            )?;
         }
         match waiting.pop() {
             Some(next) => pc = next,

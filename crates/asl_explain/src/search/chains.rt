@@ -1,4 +1,4 @@
-//! The chains of a search, made of the changes on the way.
+//! The chains of a search, made of the changes on the way. They are unproved, as the search is: `confirm.rt` looks at each again.
 
 use crate::explain_analysis::ExplainAnalysis;
 use crate::explained_value::{Chain, Ending, Step, Why};
@@ -28,11 +28,17 @@ impl Searcher {
         }))
     }
 
-    /// The chains of the statements that were found.
-    pub(crate) fn chains_of(&self, analysis: &ExplainAnalysis) -> Result<Vec<Chain>, AllocError> {
-        let accesses = &self.search.accesses;
-        let mut chains = Vec::with_capacity(self.alloc, accesses.len())?;
-        for access in accesses {
+    /// The chains of the first statements that were found, so many of them.
+    pub(crate) fn chains_of(
+        &self,
+        analysis: &ExplainAnalysis,
+        count: usize,
+    ) -> Result<Vec<Chain>, AllocError> {
+        let mut chains = Vec::new(self.alloc);
+        for place in 0..count {
+            let Some(access) = self.search.accesses.get(place) else {
+                break;
+            };
             let steps = self.steps(analysis, *access)?;
             chains.push(Chain {
                 steps: Items::from_vec(steps),
@@ -46,19 +52,30 @@ impl Searcher {
         let count = self.count_changes(access.last).saturating_add(1);
         let mut steps = Vec::with_capacity(self.alloc, count)?;
         self.add_step(analysis, access.point, Why::Accessed, &mut steps)?;
-        let mut last = access.last;
+        self.add_changes(analysis, access.last, &mut steps)?;
+        Ok(steps)
+    }
+
+    /// Adds the steps of a change and of those before it.
+    pub(crate) fn add_changes(
+        &self,
+        analysis: &ExplainAnalysis,
+        from: Option<usize>,
+        steps: &mut Vec<Step>,
+    ) -> Result<(), AllocError> {
+        let mut last = from;
         for _ in 0..self.search.changes.len() {
             let Some(change) = self.change_at(last) else {
                 break;
             };
-            self.add_step(analysis, change.point, change.why, &mut steps)?;
+            self.add_step(analysis, change.point, change.why, steps)?;
             last = change.earlier;
         }
-        Ok(steps)
+        Ok(())
     }
 
     /// The change of a number, if there is one.
-    fn change_at(&self, number: Option<usize>) -> Option<Change> {
+    pub(crate) fn change_at(&self, number: Option<usize>) -> Option<Change> {
         self.search.changes.get(number?).copied()
     }
 
@@ -75,7 +92,7 @@ impl Searcher {
     }
 
     /// Adds a step with the lock of a point.
-    fn add_step(
+    pub(crate) fn add_step(
         &self,
         analysis: &ExplainAnalysis,
         point: Point,

@@ -8,6 +8,13 @@ use asl_backward_flow::Region;
 use asl_code::Instr;
 use std::alloc::{AllocError, Global};
 
+/// A point, and how many instructions are on the way to it.
+#[derive(Clone, Copy)]
+pub(crate) struct Ahead {
+    pub(crate) to: Point,
+    pub(crate) instructions: u32,
+}
+
 /// A section and its place in the flow.
 #[derive(Clone, Copy)]
 struct Placed {
@@ -63,11 +70,14 @@ impl Graph {
     }
 
     /// The first point from this one on at which something may happen to its lock, if the lock is needed up to there.
-    pub(crate) fn event(&self, analysis: &ExplainAnalysis, from: Point) -> Option<Point> {
+    pub(crate) fn event(&self, analysis: &ExplainAnalysis, from: Point) -> Option<Ahead> {
         let table = self.table_of(from.place)?;
         let lock = lock_of(analysis, from)?;
-        let pc = self.events.next(table.function, lock, from.pc)?;
-        point_of(analysis, from.place, pc, usize::from(from.number))
+        let passed = self.events.next(table.function, lock, from.pc)?;
+        Some(Ahead {
+            to: point_of(analysis, from.place, passed.pc, usize::from(from.number))?,
+            instructions: passed.instructions,
+        })
     }
 
     /// The place of the section of a number, which is of a function. Sees to it that there is a table of it, in place of that of

@@ -87,6 +87,14 @@ fn new_node(point: Point) -> Node {
 }
 
 impl Cost {
+    /// The cost of both.
+    pub(crate) fn with(self, more: Cost) -> Cost {
+        Cost {
+            changes: self.changes.saturating_add(more.changes),
+            instructions: self.instructions.saturating_add(more.instructions),
+        }
+    }
+
     /// The cost after an edge more.
     pub(crate) fn after(self, edge: Edge) -> Cost {
         let changed = if edge.why.is_some() { 1 } else { 0 };

@@ -2,6 +2,7 @@
 ghost use Rattle.asl_explain.specs.Analysed.{IsAnalysed};
 
 use crate::explain_analysis::ExplainAnalysis;
+use crate::search::graph::Ahead;
 use crate::search::nodes::{Cost, Edge, Onward, Visit, Way};
 use crate::search::point::{Point, lock_of};
 use crate::search::{Access, Searcher, Waiting};
@@ -22,11 +23,6 @@ fn is_access(analysis: &ExplainAnalysis, point: Point) -> bool {
         }
         _ => false,
     }
-}
-
-/// How many instructions the pcs are apart.
-fn passed(from: Point, to: Point) -> u32 {
-    u32::from(to.pc.saturating_sub(from.pc))
 }
 
 impl Searcher {
@@ -57,13 +53,13 @@ impl Searcher {
         from: Point,
         last: Option<usize>,
     ) -> Result<(), AllocError> {
-        let Some(to) = self.graph.event(analysis, from) else {
+        let Some(Ahead { to, instructions }) = self.graph.event(analysis, from) else {
             return Ok(());
         };
         let number = self.nodes.number(to)?;
         let cost = Cost {
             changes: 0,
-            instructions: passed(from, to),
+            instructions,
         };
         if self
             .nodes
@@ -75,8 +71,8 @@ impl Searcher {
         Ok(())
     }
 
-    /// Puts a point among those that wait.
-    fn wait(
+    /// Puts a point among those that wait, or among the entries of bodies where these are left for later.
+    pub(crate) fn wait(
         &mut self,
         point: Point,
         number: usize,
@@ -90,11 +86,16 @@ impl Searcher {
             is_done: false,
         };
         self.nodes.visit(number, visit);
-        self.search.waiting.push(Reverse(Waiting {
+        let waiting = Waiting {
             cost,
             point,
             number,
-        }))?;
+        };
+        if self.search.is_outside && point.place != self.search.place {
+            self.search.entries.push(waiting)?;
+        } else {
+            self.search.waiting.push(Reverse(waiting))?;
+        }
         Ok(())
     }
 
@@ -108,6 +109,7 @@ impl Searcher {
         let onward = self.onward(analysis, waiting)?;
         if onward.is_access {
             self.search.note(Access {
+                cost: waiting.cost,
                 point: waiting.point,
                 last: visit.last,
             })?;
@@ -134,8 +136,8 @@ impl Searcher {
         let first = self.nodes.count();
         for way in &self.ways {
             let Way { to: from, why } = *way;
-            if let Some(to) = self.graph.event(analysis, from) {
-                self.nodes.add(to, passed(from, to).saturating_add(1), why)?;
+            if let Some(Ahead { to, instructions }) = self.graph.event(analysis, from) {
+                self.nodes.add(to, instructions.saturating_add(1), why)?;
             }
         }
         Ok(

@@ -2,6 +2,7 @@
 
 use crate::explained_value::{Chain, Listed, Need, Step, Why};
 use crate::notes::note_of;
+use crate::search::Statements;
 use crate::text::{
     MAX_CONTAINED, MAX_NAMED, NO_PLACE, Teller, narrow, pad, pad_behind, plural, write_line,
 };
@@ -14,18 +15,22 @@ pub(crate) fn behind_others(is_first: bool) -> &'static str {
     if is_first { "" } else { "\n" }
 }
 
-/// The statements of the chains of a need, perhaps without the first.
+/// The statements of the chains of a need, perhaps without the first, and the others that have it.
 pub(crate) fn statements_of(
     alloc: Global,
     need: &Need,
+    others: Option<&Statements>,
     without_first: bool,
-) -> Result<Vec<u16>, AllocError> {
-    let mut statements = Vec::new(alloc);
+) -> Result<Statements, AllocError> {
+    let mut statements = match others {
+        Some(others) => others.copied()?,
+        None => Statements::none(alloc),
+    };
     let mut is_left = without_first;
     for chain in need.chains.as_slice() {
         if !is_left {
             if let Some(step) = chain.steps.as_slice().first() {
-                statements.push(step.pc)?;
+                statements.add(step.pc)?;
             }
         }
         is_left = false;
@@ -45,17 +50,24 @@ pub(crate) fn push_left(text: &mut String, left: usize) -> Result<(), AllocError
     )
 }
 
+/// A need with its number among those under a lock of a list.
+#[derive(Clone, Copy)]
+pub(crate) struct Numbered<'a> {
+    need: &'a Need,
+    number: usize,
+}
+
 /// What a lock of a list covers, itself first.
-pub(crate) fn ordered(alloc: Global, listed: &Listed) -> Result<Vec<&Need>, AllocError> {
+pub(crate) fn ordered(alloc: Global, listed: &Listed) -> Result<Vec<Numbered<'_>>, AllocError> {
     let mut needs = Vec::new(alloc);
-    for need in listed.needs.as_slice() {
+    for (number, need) in listed.needs.as_slice().iter().enumerate() {
         if need.lock == listed.lock {
-            needs.push(need)?;
+            needs.push(Numbered { need, number })?;
         }
     }
-    for need in listed.needs.as_slice() {
+    for (number, need) in listed.needs.as_slice().iter().enumerate() {
         if need.lock != listed.lock {
-            needs.push(need)?;
+            needs.push(Numbered { need, number })?;
         }
     }
     Ok(needs)
@@ -81,7 +93,7 @@ impl Teller<'_> {
         listed: &Listed,
     ) -> Result<(), AllocError> {
         let mut is_first = true;
-        for need in ordered(self.alloc, listed)? {
+        for Numbered { need, .. } in ordered(self.alloc, listed)? {
             for chain in need.chains.as_slice() {
                 if is_first || self.all {
                     text.push_str(behind_others(is_first))?;
@@ -110,24 +122,25 @@ impl Teller<'_> {
         write_line(text, "so", words.as_str(), "(the list's lock contains it)")
     }
 
-    /// Adds the statements whose chains are not told.
+    /// Adds the statements whose chains are not told: those of the chains that are kept, and for each need the others.
     pub(crate) fn push_others(
         &self,
         text: &mut String,
         function: u16,
         listed: &Listed,
+        others: &[Statements],
     ) -> Result<(), AllocError> {
         let mut is_first = true;
         let mut told = 0usize;
         let mut left = 0usize;
-        for need in ordered(self.alloc, listed)? {
-            let mut statements = statements_of(self.alloc, need, is_first)?;
+        for Numbered { need, number } in ordered(self.alloc, listed)? {
+            let statements = statements_of(self.alloc, need, others.get(number), is_first)?;
             is_first = is_first && need.chains.len() == 0;
             if told == MAX_CONTAINED {
                 left = left.saturating_add(1);
-            } else if statements.len() > 0 {
+            } else if statements.count > 0 {
                 told = told.saturating_add(1);
-                self.push_other(text, function, listed, need, &mut statements)?;
+                self.push_other(text, function, listed, need, &statements)?;
             }
         }
         push_left(text, left)
@@ -140,16 +153,15 @@ impl Teller<'_> {
         function: u16,
         listed: &Listed,
         need: &Need,
-        statements: &mut Vec<u16>,
+        statements: &Statements,
     ) -> Result<(), AllocError> {
-        statements.sort_unstable();
         if need.lock == listed.lock {
             text.push_str("      also for: ")?;
         } else {
             let words = self.words(function, &need.lock)?;
             write!(text, "      contains {words}, for: ")?;
         }
-        self.push_statements(text, statements.as_slice())?;
+        self.push_statements(text, statements)?;
         text.push_str("\n")
     }
 

@@ -1,6 +1,7 @@
 //! Why expressions became classes, and what is in a class.
 
 use crate::explained_value::Listed;
+use crate::search::Statements;
 use crate::text::{MAX_NAMED, Teller, narrow, pad, pad_behind, plural};
 use asl_backward_flow::Region;
 use asl_code::{Instr, Lock};
@@ -66,7 +67,12 @@ impl Teller<'_> {
     }
 
     /// What comes after the spelling of a lock of a list: what a class has, and the chains.
-    pub fn behind_spelling(&self, function: u16, listed: &Listed) -> Result<String, AllocError> {
+    pub fn behind_spelling(
+        &self,
+        function: u16,
+        listed: &Listed,
+        others: &[Statements],
+    ) -> Result<String, AllocError> {
         let mut text = String::new(self.alloc);
         match &listed.lock {
             Lock::Expr(_, _) => {}
@@ -81,7 +87,7 @@ impl Teller<'_> {
         text.push_str("\n")?;
         self.push_chains(&mut text, function, listed)?;
         if !self.all {
-            self.push_others(&mut text, function, listed)?;
+            self.push_others(&mut text, function, listed, others)?;
         }
         Ok(text)
     }
@@ -137,21 +143,21 @@ impl Teller<'_> {
         }
     }
 
-    /// Adds the statements of the first of these instructions, or of all of them if they are to be shown.
+    /// Adds the first of these statements, or all of them if they are few.
     pub(crate) fn push_statements(
         &self,
         text: &mut String,
-        statements: &[u16],
+        statements: &Statements,
     ) -> Result<(), AllocError> {
-        let shown = self.count_shown(statements.len());
-        for (place, pc) in statements.iter().enumerate() {
+        let shown = self.count_shown(statements.count);
+        for (place, pc) in statements.first.iter().enumerate() {
             if place >= shown {
                 break;
             }
             text.push_str(between(place))?;
             text.push_str(self.place(*pc)?.as_str())?;
         }
-        push_more(text, shown, statements.len())
+        push_more(text, shown, statements.count)
     }
 
     /// How many of so many are shown.

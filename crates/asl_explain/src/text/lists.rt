@@ -1,6 +1,6 @@
 //! The lists with paths of each length, those that are the same in one line.
 
-use crate::explained_value::{Explanation, Lists};
+use crate::explained_value::Lists;
 use crate::text::{Teller, pad};
 use std::alloc::AllocError;
 use std::fmt::Write;
@@ -39,9 +39,8 @@ impl Teller<'_> {
         text: &mut String,
         number: usize,
         function: u16,
-        explanation: &Explanation,
     ) -> Result<(), AllocError> {
-        let lists = explanation.by_length.as_slice();
+        let lists = self.by_length;
         let mut first = 0;
         for length in 0..lists.len() {
             if length + 1 == lists.len() || !are_same(&lists[length], &lists[length + 1], number) {

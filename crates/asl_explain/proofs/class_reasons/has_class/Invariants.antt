@@ -1,7 +1,7 @@
 -- what is left gives the answer
 use Rattle.std.proofs.Common.{◌≡◌, drop}
-use Rattle.asl_explain.specs.ClassReasons.{has_class}
+use Rattle.asl_explain.specs.Telling.{is_listed}
 use Rattle.asl_explain.proofs.class_reasons.has_class.Given as goal
 
-abbrev pub invariant-loop-listed : goal.invariant-loop-listed
-invariant-loop-listed l = has_class l.class (drop l.listed-index l.list) ≡ has_class l.class l.list
+abbrev pub invariant-loop-lock : goal.invariant-loop-lock
+invariant-loop-lock l = is_listed l.class (drop l.lock-index l.list) ≡ is_listed l.class l.list

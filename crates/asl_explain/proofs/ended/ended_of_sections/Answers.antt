@@ -1,7 +1,6 @@
 use Rattle.std.proofs.Common.{◌≡◌, List, length, slice_get, ap, sym, ◌∙◌, subst, arith}
 use Rattle.std.proofs.lemmas.Option.{slice_get-get_or}
 use Rattle.asl_lower.specs.declared.section.Section.{Section}
-use Rattle.asl_lower.proofs.Layouts.{kept_layout}
 use Rattle.asl_explain.specs.declared.explained_value.Ended.{Ended}
 use Rattle.asl_explain.specs.Analysed.{read}
 use Rattle.asl_explain.specs.Explained.{AreAllEnded}
@@ -10,7 +9,7 @@ use Rattle.asl_explain.proofs.ended.ended_of_sections.Goals as goal
 
 pub overflow_cast-number : goal.overflow_cast-number
 overflow_cast-number c =
-    let few = (kept_layout c.args.analysis.now.lowering c.sections-section-items.ensures.kept).limits.few_sections in
+    let few = c.sections-section-items.ensures.kept.layout.limits.few_sections in
     let same = ap (length {A = Section}) c.sections-section-items.ensures.sections in
     let lt = c.loop-number-test.true in
     omega (arith, few, same, lt)

@@ -3,5 +3,5 @@ use Rattle.std.specs.List.{flat_map}
 use Rattle.asl_explain.specs.Telling.{Tells, pieces_of}
 use Rattle.asl_explain.proofs.explained_text.push_locks.Given as goal
 
-abbrev pub invariant-loop-lock : goal.invariant-loop-lock
-invariant-loop-lock l = Tells (flat_map (pieces_of l.classes l.section) (take l.lock-index l.listed)) (string_bytes l.fn.text) (string_bytes l.text)
+abbrev pub invariant-loop-place : goal.invariant-loop-place
+invariant-loop-place l = Tells (flat_map (pieces_of l.classes l.section) (take l.place l.listed)) (string_bytes l.fn.text) (string_bytes l.text)

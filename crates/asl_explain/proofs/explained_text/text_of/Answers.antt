@@ -1,21 +1,52 @@
-use Rattle.std.proofs.Common.{◌≤◌, ◌+◌, List, [], length, take, string_bytes, refl, sym, ◌∙◌, subst}
-use Rattle.asl_explain.specs.declared.explained_value.Listed.{Listed}
-use Rattle.asl_explain.specs.Telling.{Tells, all_pieces}
-use Rattle.asl_explain.proofs.Pieces.{tells_none, sections_more, sections_all}
+use Rattle.std.proofs.Common.{◌≡◌, List, Some, length, slice_get, get_or, string_bytes, refl, ap, sym, ◌∙◌, subst, arith}
+use Rattle.std.proofs.lemmas.Option.{slice_get-get_or, slice_get_read}
+use Rattle.asl_lower.specs.declared.section.Section.{Section}
+use Rattle.asl_explain.specs.Analysed.{read}
+use Rattle.asl_explain.specs.Telling.{TellsSections}
+use Rattle.asl_explain.proofs.Sectionwise.{tells_no_section, tells_section_more}
 use Rattle.asl_explain.proofs.explained_text.text_of.Goals as goal
 
 pub loop-number-init : goal.loop-number-init
-loop-number-init c = subst (Tells [] []) (sym c.new-text.ensures.bytes) (tells_none [])
+loop-number-init c =
+    let t = c.args.classes.now in
+    tells_no_section (read c.args.analysis.now) c.args.lists.now t.reasoned.now.known.facts t.all t.told.now _ c.new-text.ensures.bytes
+
+pub overflow_cast-number : goal.overflow_cast-number
+overflow_cast-number c =
+    let few = c.sections-section-items.ensures.kept.layout.limits.few_sections in
+    let same = ap (length {A = Section}) c.sections-section-items.ensures.sections in
+    let lt = c.loop-number-test.true in
+    omega (arith, few, same, lt)
+
+pub push_explained-requires-clause-there : goal.push_explained-requires-clause-there
+push_explained-requires-clause-there c =
+    let n = c.loop-number.number in
+    ap (λ (ss : List Section). slice_get ss n) (sym c.sections-section-items.ensures.sections)
+    ∙ slice_get-get_or c.sections-section-items.result.now n (record { function = 0; acquire = 0; release = 0 }) c.loop-number-test.true
 
 pub loop-number-preserved : goal.loop-number-preserved
 loop-number-preserved c =
-    let same = c.as_slice-listed-items.ensures in
-    let n = c.loop-number.number in
+    let l = c.args.analysis.now.lowering in
     let t = c.args.classes.now in
-    subst (λ (xs : List (List Listed)). Tells (all_pieces t 0 (take (n + 1) xs)) [] (string_bytes c.push_section.new.text)) same
-    (sections_more t c.as_slice-listed-items.result.now n _ c.as_slice.result.now [] (string_bytes c.loop-number.text) _ c.loop-number-test.true (sym c.listed-item.is ∙ sym c.as_slice.ensures)
-    (subst (λ (xs : List (List Listed)). Tells (all_pieces t 0 (take n xs)) [] (string_bytes c.loop-number.text)) (sym same) c.loop-number.invariant) c.in_ok-push_section.ensures)
+    let n = c.loop-number.number in
+    let s : Section = get_or c.sections-section-items.result.now n (record { function = 0; acquire = 0; release = 0 }) in
+    let there : slice_get l.sections n ≡ Some s =
+    ap (λ (ss : List Section). slice_get ss n) (sym c.sections-section-items.ensures.sections)
+    ∙ slice_get-get_or c.sections-section-items.result.now n (record { function = 0; acquire = 0; release = 0 }) c.loop-number-test.true in
+    let many = ap (length {A = Section}) c.sections-section-items.ensures.sections in
+    let lt = c.loop-number-test.true in
+    let req = c.requires.count in
+    let at = slice_get_read c.args.lists.now (length c.args.lists.now) n c.index-lists-number.result refl (omega (arith, many, lt, req)) c.index-lists-number.is in
+    tells_section_more (read c.args.analysis.now) c.args.lists.now t.reasoned.now.known.facts t.all t.told.now n s c.as_slice-list.result.now (string_bytes c.loop-number.text) (string_bytes c.push_explained.new.text) there (at ∙ ap Some (sym c.as_slice-list.ensures))
+    c.loop-number.invariant c.in_ok-push_explained.ensures
 
 pub returns : goal.returns
 returns c =
-    sections_all c.args.classes.now c.args.explanation.now.sections c.loop-number.number [] _ (subst (λ (xs : List (List Listed)). length xs ≤ c.loop-number.number) c.as_slice-listed-items.ensures c.loop-number-test.false) refl c.loop-number.invariant
+    let x = read c.args.analysis.now in
+    let l = c.args.analysis.now.lowering in
+    let t = c.args.classes.now in
+    let many = ap (length {A = Section}) c.sections-section-items.ensures.sections in
+    let past = c.loop-number-test.false in
+    let within = c.loop-number.auto.number-end in
+    let end : c.loop-number.number ≡ length l.sections = omega (arith, many, past, within) in
+    subst (λ n. TellsSections x c.args.lists.now t.reasoned.now.known.facts t.all t.told.now n (string_bytes c.loop-number.text)) end c.loop-number.invariant

@@ -4,8 +4,8 @@ use Rattle.asl_emitter.specs.BuiltImage.{AreFitted}
 use Rattle.asl_explain.proofs.Short.{fitted_at}
 use Rattle.asl_explain.proofs.lists_by_length.lists_at.Goals as goal
 
-pub returns-then-is_same : goal.returns-then-is_same
-returns-then-is_same c =
+pub returns-then-is_same-clause-lists : goal.returns-then-is_same-clause-lists
+returns-then-is_same-clause-lists c =
     let a = c.args.analysis.now in
     let same = c.is_same.ensures c.if-is_same.true in
     fitted_at a c.args.k_limit c.in_ok-same_lists.field-0 c.requires.analysed same.0 same.1

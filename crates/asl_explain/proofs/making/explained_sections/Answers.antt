@@ -1,7 +1,6 @@
 use Rattle.std.proofs.Common.{◌≡◌, List, Some, length, slice_get, get_or, ap, sym, ◌∙◌, subst, refl, arith}
 use Rattle.std.proofs.lemmas.Option.{slice_get-get_or, slice_get_read}
 use Rattle.asl_lower.specs.declared.section.Section.{Section}
-use Rattle.asl_lower.proofs.Layouts.{kept_layout}
 use Rattle.asl_explain.specs.declared.explained_value.Listed.{Listed}
 use Rattle.asl_explain.specs.Analysed.{read, AreSections}
 use Rattle.asl_explain.proofs.Needing.{sections_more}
@@ -9,7 +8,7 @@ use Rattle.asl_explain.proofs.making.explained_sections.Goals as goal
 
 pub overflow_cast-number : goal.overflow_cast-number
 overflow_cast-number c =
-    let few = (kept_layout c.args.analysis.now.lowering c.sections-section-items.ensures.kept).limits.few_sections in
+    let few = c.sections-section-items.ensures.kept.layout.limits.few_sections in
     let same = ap (length {A = Section}) c.sections-section-items.ensures.sections in
     let lt = c.loop-number-test.true in
     omega (arith, few, same, lt)

@@ -1,0 +1,312 @@
+//! The search for the statements of which not all chains are kept: in the section itself, and once for each lock in each body that is called.
+ghost use Rattle.asl_explain.specs.Analysed.{IsAnalysed};
+
+use crate::explain_analysis::ExplainAnalysis;
+use crate::explained_value::{Chain, Step, Why};
+use crate::search::nodes::Cost;
+use crate::search::point::Point;
+use crate::search::statements::Statements;
+use crate::search::trees::{First, Range, Tree, Turn, overlap};
+use crate::search::{Access, Searcher, Waiting};
+use asl_code::{Items, Lock};
+use asl_lower::Section;
+use std::alloc::AllocError;
+
+/// A body that the section calls with a lock: the number of what is found there, and the last change on the way to the body.
+#[derive(Clone, Copy)]
+struct Entered {
+    tree: usize,
+    last: Option<usize>,
+}
+
+/// The statement that is found first of all, and the place of its body among those that are entered, unless the section has it itself.
+#[derive(Clone, Copy)]
+struct Best {
+    first: First,
+    entered: Option<usize>,
+}
+
+/// What is found in the section itself, and in bodies.
+#[derive(Drop)]
+struct Joined {
+    entered: Vec<Entered>,
+    best: Option<Best>,
+}
+
+/// The first of both.
+fn better(best: Option<Best>, first: First, entered: Option<usize>) -> Option<Best> {
+    let new = Best { first, entered };
+    let Some(old) = best else {
+        return Some(new);
+    };
+    let is_before = first.cost < old.first.cost
+        || (first.cost == old.first.cost && first.point < old.first.point);
+    if is_before { Some(new) } else { Some(old) }
+}
+
+impl Searcher {
+    /// The chain of a lock that the section of a number needs at its start, if it is to be kept; its other statements are noted.
+    pub(crate) fn shown_chain(
+        &mut self,
+        analysis: &ExplainAnalysis,
+        number: u16,
+        section: Section,
+        listed: &Lock,
+        lock: &Lock,
+    ) -> Result<Vec<Chain>, AllocError>
+        requires { IsAnalysed analysis.now }
+    {
+        let is_listed = listed == lock;
+        self.look_outside(analysis, number, section, lock)?;
+        if self.add_trees(analysis)? {
+            self.look_outside(analysis, number, section, lock)?;
+        }
+        if let Some(joined) = self.joined()? {
+            return self.joined_chain(analysis, &joined, is_listed);
+        }
+        self.begin_at_start(analysis, number, section, lock)?;
+        self.go_on(analysis, usize::MAX)?;
+        let count = self.search.accesses.len();
+        let kept = self.count_kept(count, is_listed);
+        let statements = self.statements_from(kept)?;
+        self.others.add(statements)?;
+        self.chains_of(analysis, kept)
+    }
+
+    /// Looks for statements in the section of a number, and notes where it enters bodies.
+    fn look_outside(
+        &mut self,
+        analysis: &ExplainAnalysis,
+        number: u16,
+        section: Section,
+        lock: &Lock,
+    ) -> Result<(), AllocError>
+        requires { IsAnalysed analysis.now }
+    {
+        self.search.is_outside = true;
+        self.begin_at_start(analysis, number, section, lock)?;
+        self.go_on(analysis, usize::MAX)?;
+        self.search.is_outside = false;
+        Ok(())
+    }
+
+    /// Looks for statements in the bodies that are entered, as far as that is not done and there is room for what is found. Says whether
+    /// there was such a body: then the search has to look outside again.
+    fn add_trees(&mut self, analysis: &ExplainAnalysis) -> Result<bool, AllocError>
+        requires { IsAnalysed analysis.now }
+    {
+        let mut points = Vec::new(self.alloc);
+        for entry in &self.search.entries {
+            if self.trees.number(entry.point).is_none() {
+                points.push(entry.point)?;
+            }
+        }
+        let mut is_changed = false;
+        for point in points {
+            if self.trees.number(point).is_none() && self.trees.may_grow() {
+                self.add_tree(analysis, point)?;
+                is_changed = true;
+            }
+        }
+        Ok(is_changed)
+    }
+
+    /// Looks for statements from a point of a body on, and keeps what is found.
+    fn add_tree(&mut self, analysis: &ExplainAnalysis, from: Point) -> Result<(), AllocError>
+        requires { IsAnalysed analysis.now }
+    {
+        self.begin();
+        let number = self.nodes.number(from)?;
+        let free = Cost {
+            changes: 0,
+            instructions: 0,
+        };
+        self.wait(from, number, free, None)?;
+        self.go_on(analysis, usize::MAX)?;
+        let (first, turns) = match self.search.accesses.first().copied() {
+            Some(access) => (Some(access.first()), self.turns(access.last)?),
+            None => (None, Vec::new(self.alloc)),
+        };
+        let tree = Tree {
+            first,
+            turns,
+            all: self.statements_from(0)?,
+            others: self.statements_from(1)?,
+            range: self.range(),
+        };
+        self.trees.keep(from, tree)
+    }
+
+    /// A change and those before it.
+    fn turns(&self, from: Option<usize>) -> Result<Vec<Turn>, AllocError> {
+        let mut turns = Vec::new(self.alloc);
+        let mut last = from;
+        for _ in 0..self.search.changes.len() {
+            let Some(change) = self.change_at(last) else {
+                break;
+            };
+            turns.push(Turn {
+                point: change.point,
+                why: change.why,
+            })?;
+            last = change.earlier;
+        }
+        Ok(turns)
+    }
+
+    /// The statements that were found, from a number on.
+    fn statements_from(&self, first: usize) -> Result<Statements, AllocError> {
+        let mut statements = Statements::none(self.alloc);
+        for place in first..self.search.accesses.len() {
+            if let Some(access) = self.search.accesses.get(place) {
+                statements.add(access.point.pc)?;
+            }
+        }
+        Ok(statements)
+    }
+
+    /// Where the statements stand that were found.
+    fn range(&self) -> Range {
+        let mut range = Range {
+            low: 65535,
+            high: 0,
+        };
+        for access in &self.search.accesses {
+            range.low = range.low.min(access.point.pc);
+            range.high = range.high.max(access.point.pc);
+        }
+        range
+    }
+
+    /// What is found in the section itself, and in the bodies that it enters, if no statement may be found twice and all is known of the bodies.
+    fn joined(&mut self) -> Result<Option<Joined>, AllocError> {
+        let mut best = None;
+        let mut ranges = Vec::new(self.alloc);
+        let mut entered = Vec::new(self.alloc);
+        if let Some(access) = self.search.accesses.first() {
+            best = better(best, access.first(), None);
+            ranges.push(self.range())?;
+        }
+        for place in 0..self.search.entries.len() {
+            let Some(entry) = self.search.entries.get(place).copied() else {
+                continue;
+            };
+            let Some(visit) = self.nodes.leave(entry.number) else {
+                continue;
+            };
+            let Some(tree) = self.trees.number(entry.point) else {
+                return Ok(None);
+            };
+            let Some((first, range)) = self.found_in(tree) else {
+                continue;
+            };
+            let there = First {
+                cost: visit.cost.with(first.cost),
+                point: first.point,
+            };
+            best = better(best, there, Some(entered.len()));
+            ranges.push(range)?;
+            entered.push(Entered {
+                tree,
+                last: visit.last,
+            })?;
+        }
+        if overlap(&mut ranges) {
+            return Ok(None);
+        }
+        Ok(Some(Joined { entered, best }))
+    }
+
+    /// The first statement of a tree, and where all stand, if it has any.
+    fn found_in(&self, tree: usize) -> Option<(First, Range)> {
+        let tree = self.trees.tree(tree)?;
+        Some((tree.first?, tree.range))
+    }
+
+    /// The chain of what is joined, if it is to be kept; the other statements are noted.
+    fn joined_chain(
+        &mut self,
+        analysis: &ExplainAnalysis,
+        joined: &Joined,
+        is_listed: bool,
+    ) -> Result<Vec<Chain>, AllocError> {
+        let mut chains = Vec::new(self.alloc);
+        let Some(best) = joined.best else {
+            self.others.add(Statements::none(self.alloc))?;
+            return Ok(chains);
+        };
+        let is_kept = self.count_kept(1, is_listed) > 0;
+        if is_kept {
+            let steps = self.steps_to(analysis, joined, best)?;
+            chains.push(Chain {
+                steps: Items::from_vec(steps),
+            })?;
+        }
+        let statements = self.joined_statements(joined, best, is_kept)?;
+        self.others.add(statements)?;
+        Ok(chains)
+    }
+
+    /// The statements of what is joined, perhaps without the first.
+    fn joined_statements(
+        &self,
+        joined: &Joined,
+        best: Best,
+        without_first: bool,
+    ) -> Result<Statements, AllocError> {
+        let own = if without_first && best.entered.is_none() {
+            1
+        } else {
+            0
+        };
+        let mut statements = self.statements_from(own)?;
+        for (place, entered) in joined.entered.iter().enumerate() {
+            if let Some(tree) = self.trees.tree(entered.tree) {
+                if without_first && best.entered == Some(place) {
+                    statements.join(&tree.others)?;
+                } else {
+                    statements.join(&tree.all)?;
+                }
+            }
+        }
+        Ok(statements)
+    }
+
+    /// The steps of the chain of the statement that is found first of all.
+    fn steps_to(
+        &self,
+        analysis: &ExplainAnalysis,
+        joined: &Joined,
+        best: Best,
+    ) -> Result<Vec<Step>, AllocError> {
+        let mut steps = Vec::new(self.alloc);
+        self.add_step(analysis, best.first.point, Why::Accessed, &mut steps)?;
+        let entered = match best.entered {
+            Some(place) => joined.entered.get(place).copied(),
+            None => None,
+        };
+        let Some(entered) = entered else {
+            if let Some(access) = self.search.accesses.first() {
+                self.add_changes(analysis, access.last, &mut steps)?;
+            }
+            return Ok(steps);
+        };
+        if let Some(tree) = self.trees.tree(entered.tree) {
+            for turn in &tree.turns {
+                self.add_step(analysis, turn.point, turn.why, &mut steps)?;
+            }
+        }
+        self.add_changes(analysis, entered.last, &mut steps)?;
+        Ok(steps)
+    }
+}
+
+impl Access {
+    /// The statement as one that is found first.
+    fn first(&self) -> First {
+        First {
+            cost: self.cost,
+            point: self.point,
+        }
+    }
+}
