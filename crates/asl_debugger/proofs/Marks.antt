@@ -19,6 +19,7 @@ use Rattle.asl_debugger.specs.Computed.{machine_before, state_before}
 use Rattle.asl_debugger.proofs.Positions.{is_at}
 use Rattle.asl_debugger.specs.declared.trail.Mark.{Mark}
 use Rattle.asl_debugger.specs.Checkpoints.{IsMark, AreCheckpoints, IsDebuggerState}
+use Rattle.asl_debugger.specs.Growing.{AreSoFar}
 
 -- what is left of the machine at a position is a mark there
 pub mark_of : (image : Image) (log : Log) (k : ℕ) (machine : Configuration) (rest : Rest) → machine ≡ machine_before image log k → IsRestOf machine.image rest → rest.state ≡ machine.state → IsMark image log k rest
@@ -31,16 +32,6 @@ mark_of image log k machine rest at fits state = record {
 pub marked : (image : Image) (log : Log) (k : ℕ) (rest : Rest) (machine : Configuration) → machine ≡ record { image = image; state = rest.state } → IsMark image log k rest → machine ≡ machine_before image log k
 marked image log k rest machine e is =
     is_at machine image (state_before image log k) (ap (λ (m : Configuration). m.image) e) (ap (λ (m : Configuration). m.state) e ∙ is.state)
-
--- the machine is here, and the events up to here are of the program's run: some checkpoints stand at 0, the spacing, twice the
--- spacing and so on, the last one here
-pub record AreSoFar (image : Image) (log : Log) (spacing here : ℕ) (machine : Configuration) (checkpoints : List Rest) : Type 0 where
-  pub counted : IsThreadCount image log.threads
-  pub at : machine ≡ machine_before image log here
-  pub each : AreCheckpoints image log spacing checkpoints
-  pub last : here + spacing ≡ length checkpoints * spacing
-  pub within : here ≤ length log.events
-  pub goes : GoesBy image (start_of image log.threads) (take here log.events)
 
 some : Rest → Option Rest
 some m = Some m
@@ -91,6 +82,17 @@ so_far_next image log spacing here old machine checkpoints rest so_far at fits s
   within = within;
   goes = goes;
 }
+
+-- the machine that is here is of the program
+pub so_far_of : (image : Image) (log : Log) (spacing here : ℕ) (machine : Configuration) (checkpoints : List Rest) → AreSoFar image log spacing here machine checkpoints → AreSoFar machine.image log spacing here machine checkpoints
+so_far_of image log spacing here machine checkpoints so_far =
+    subst (λ (i : Image). AreSoFar i log spacing here machine checkpoints) (sym (ap (λ (m : Configuration). m.image) so_far.at)) so_far
+
+-- what comes of it is too
+pub so_far_on : (image : Image) (log : Log) (spacing here next : ℕ) (old machine : Configuration) (olds checkpoints : List Rest) → AreSoFar image log spacing here old olds → AreSoFar old.image log spacing next machine checkpoints
+    → AreSoFar image log spacing next machine checkpoints
+so_far_on image log spacing here next old machine olds checkpoints so_far on =
+    subst (λ (i : Image). AreSoFar i log spacing next machine checkpoints) (ap (λ (m : Configuration). m.image) so_far.at) on
 
 -- a journal that is followed to its end
 pub all_followed : (image : Image) (log : Log) → IsVerified image → IsThreadCount image log.threads → IsLog log → GoesBy image (start_of image log.threads) (take (length log.events) log.events) → IsJournal image log.threads log.events

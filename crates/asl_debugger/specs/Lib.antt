@@ -6,5 +6,6 @@ pub mod Session
 pub mod Computed
 pub mod Fault
 pub mod Checkpoints
+pub mod Growing
 pub mod Search
 pub mod Halts

@@ -1,11 +1,12 @@
 //! The machine at positions of a journal, and the checkpoints that a debugger keeps.
-ghost use Rattle.std.specs.Prelude.{◌≡◌, ◌<◌, ◌≤◌, ◌+◌, ◌*◌, [], length, take, IfErr, IfOk, IsErrOf, OnErr, OnOk};
+ghost use Rattle.std.specs.Prelude.{◌≡◌, ◌<◌, ◌≤◌, ◌+◌, ◌*◌, ◌^◌, [], ℕ, length, take, IfErr, IfOk, IsErrOf, OnErr, OnOk};
 ghost use Rattle.asl_machine.specs.Paused.{IsRestOf};
 ghost use Rattle.asl_machine.specs.Run.{IsThreadCount, start_of};
 ghost use Rattle.asl_code.specs.Verified.{IsVerified};
 ghost use Rattle.asl_journal.specs.Computed.{GoesBy};
 ghost use Rattle.asl_journal.specs.Journal.{IsJournal, IsLog};
 ghost use Rattle.asl_debugger.specs.Checkpoints.{AreCheckpoints, IsDebuggerState};
+ghost use Rattle.asl_debugger.specs.Growing.{AreSoFar, HasOneMore};
 ghost use Rattle.asl_debugger.specs.Opening.{IsOpenFault};
 ghost use Rattle.asl_debugger.specs.Halts.{MayWantMemoryBefore};
 ghost use Rattle.asl_debugger.specs.Computed.{machine_before, state_before};
@@ -112,23 +113,97 @@ fn checkpoints_of<'p, M: Memory>(
     ensures refused { IfErr result (λ fault. IsOpenFault program.now journal.now fault) }
     ensures growth { IsErrOf result DebugFault.OutOfMemory → M.refused memory }
 {
-    let events = journal.events();
-    let mut machine = first_machine(memory, program, journal)?;
     let mut checkpoints = Vec::new(memory.allocator());
-    let first = rest_of(memory, &machine)?;
-    memory.reserve(&mut checkpoints, 1)?;
-    checkpoints.push_reserved(first);
+    match put_checkpoints(memory, program, journal, spacing, &mut checkpoints) {
+        Ok(()) => Ok(checkpoints),
+        Err(fault) => Err(fault),
+    }
+}
+
+/// Follows the journal to its end, and puts its checkpoints into the empty list.
+fn put_checkpoints<M: Memory>(
+    memory: M,
+    program: &Program,
+    journal: &Journal,
+    spacing: u32,
+    checkpoints: &mut Vec<Paused>,
+) -> Result<(), DebugFault>
+    requires spaced { 0 < spacing }
+    requires empty { checkpoints.old.items ≡ [] }
+    ensures log { IsLog journal.now }
+    ensures journal { OnOk result (IsJournal program.now journal.now.threads journal.now.events) }
+    ensures each { OnOk result (AreCheckpoints program.now journal.now spacing checkpoints.new.items) }
+    ensures enough { OnOk result (length journal.now.events < length checkpoints.new.items * spacing) }
+    ensures none_past { OnOk result (length checkpoints.new.items * spacing ≤ length journal.now.events + spacing) }
+    ensures refused { IfErr result (λ fault. IsOpenFault program.now journal.now fault) }
+    ensures growth { IsErrOf result DebugFault.OutOfMemory → M.refused memory }
+{
+    let events = journal.events();
+    let mut machine = first_checkpoint(memory, program, journal, checkpoints)?;
     let mut here = 0;
     while events.len() - here >= spacing as usize {
-        let next = here + spacing as usize;
-        machine = machine_between(memory, machine, journal, here, next)?;
-        let checkpoint = rest_of(memory, &machine)?;
-        memory.reserve(&mut checkpoints, 1)?;
-        checkpoints.push_reserved(checkpoint);
-        here = next;
+        machine = next_checkpoint(memory, machine, journal, here, spacing, checkpoints)?;
+        here += spacing as usize;
     }
     let _end = machine_between(memory, machine, journal, here, events.len())?;
-    Ok(checkpoints)
+    Ok(())
+}
+
+/// The machine at position 0, if the program may start with so many threads, with the checkpoint there put into the empty list.
+fn first_checkpoint<'p, M: Memory>(
+    memory: M,
+    program: &'p Program,
+    journal: &Journal,
+    checkpoints: &mut Vec<Paused>,
+) -> Result<Machine<'p>, DebugFault>
+    requires empty { checkpoints.old.items ≡ [] }
+    ensures so_far { IfOk result (λ machine. (spacing : ℕ) → AreSoFar program.now journal.now spacing 0 machine checkpoints.new.items) }
+    ensures verified { IsVerified program.now }
+    ensures refused { IfErr result (λ fault. IsOpenFault program.now journal.now fault) }
+    ensures growth { IsErrOf result DebugFault.OutOfMemory → M.refused memory }
+{
+    let machine = first_machine(memory, program, journal)?;
+    put_checkpoint(memory, &machine, checkpoints)?;
+    Ok(machine)
+}
+
+/// The machine at the next checkpoint after `here`, where the machine is, with this checkpoint put behind the others.
+fn next_checkpoint<'p, M: Memory>(
+    memory: M,
+    from: Machine<'p>,
+    journal: &Journal,
+    here: usize,
+    spacing: u32,
+    checkpoints: &mut Vec<Paused>,
+) -> Result<Machine<'p>, DebugFault>
+    requires so_far { AreSoFar from.image journal.now spacing here from checkpoints.old.items }
+    requires verified { IsVerified from.image }
+    requires room { here + spacing ≤ length journal.now.events }
+    requires fits { here + spacing < 2 ^ 64 }
+    ensures so_far { IfOk result (λ machine. AreSoFar from.entry.image journal.now spacing (here + spacing) machine checkpoints.new.items) }
+    ensures refused { IfErr result (λ fault. IsOpenFault from.entry.image journal.now fault) }
+    ensures growth { IsErrOf result DebugFault.OutOfMemory → M.refused memory }
+{
+    let next = here + spacing as usize;
+    let machine = machine_between(memory, from, journal, here, next)?;
+    put_checkpoint(memory, &machine, checkpoints)?;
+    Ok(machine)
+}
+
+/// Puts what is left of a copy of the machine behind the checkpoints.
+fn put_checkpoint<M: Memory>(
+    memory: M,
+    machine: &Machine<'_>,
+    checkpoints: &mut Vec<Paused>,
+) -> Result<(), DebugFault>
+    ensures put { OnOk result (HasOneMore machine.now checkpoints.old.items checkpoints.new.items) }
+    ensures memory { IfErr result (λ fault. fault ≡ DebugFault.OutOfMemory) }
+    ensures growth { OnErr result (M.refused memory) }
+{
+    let checkpoint = rest_of(memory, machine)?;
+    memory.reserve(checkpoints, 1)?;
+    checkpoints.push_reserved(checkpoint);
+    Ok(())
 }
 
 /// What is left of a copy of the machine.

@@ -28,6 +28,17 @@ impl<'p> Debugger<'p> {
         if k < self.position {
             return self.go_back(memory, k);
         }
+        self.go_on(memory, k)
+    }
+
+    /// Goes to position k, from the nearest copy before it.
+    fn go_on<M: Memory>(&mut self, memory: M, k: u32) -> Result<(), DebugFault>
+        requires { k ≤ length self.old.log.events }
+        ensures moves { OnOk result (self.new ≡ moved self.old k) }
+        ensures memory { IfErr result (λ fault. fault ≡ DebugFault.OutOfMemory) }
+        ensures growth { OnErr result (M.refused memory) }
+        ensures err { OnErr result (self.new ≡ self.old) }
+    {
         let (machine, here) = self.nearest(memory, k)?;
         let machine = machine_between(memory, machine, &self.journal, here as usize, k as usize)?;
         self.machine = machine;

@@ -1,9 +1,10 @@
 //! Debuggers whose journal continues: a step after its end, and a cut at the position.
-ghost use Rattle.std.specs.Prelude.{◌≡◌, ◌≢◌, ◌<◌, ◌≤◌, ◌+◌, ◌↔◌, ◌⊎◌, length, take, IfOk, IfErr, IsErrOf, OnErr};
+ghost use Rattle.std.specs.Prelude.{◌≡◌, ◌≢◌, ◌<◌, ◌≤◌, ◌+◌, ◌↔◌, ◌⊎◌, length, take, IfOk, IfErr, IsErrOf, OnErr, OnOk};
 ghost use Rattle.asl_machine.specs.Paused.{IsRestOf};
 ghost use Rattle.asl_machine.specs.declared.reply.Reply.{Reply};
 ghost use Rattle.asl_machine.specs.Step.{Step};
 ghost use Rattle.asl_journal.specs.Journal.{most_events, with_event};
+ghost use Rattle.asl_debugger.specs.Growing.{HasOneAhead};
 
 use crate::debugger::Debugger;
 use crate::fault::StepFault;
@@ -57,10 +58,13 @@ impl<'p> Debugger<'p> {
     {
         let next = self.position as usize + 1;
         if next == self.checkpoints.len() * self.spacing as usize {
-            memory.reserve(&mut self.checkpoints, 1)?;
-            let ahead = mark_ahead(memory, &self.machine, t)?;
-            let reply = write_step(memory, &mut self.journal, &mut self.machine, t)?;
-            self.checkpoints.push_reserved(ahead);
+            let reply = write_marked(
+                memory,
+                &mut self.journal,
+                &mut self.machine,
+                &mut self.checkpoints,
+                t,
+            )?;
             self.position += 1;
             Ok(reply)
         } else {
@@ -79,6 +83,35 @@ impl<'p> Debugger<'p> {
         keep_marks(&mut self.marks, 0, self.position);
         self.journal.cut(self.position);
     }
+}
+
+/// Steps thread t of the machine, and writes the step into the journal. What is left of the machine after the step, which is made ahead, is
+/// put behind the checkpoints. Only memory can fail.
+fn write_marked<M: Memory>(
+    memory: M,
+    journal: &mut Journal,
+    machine: &mut Machine<'_>,
+    checkpoints: &mut Vec<Paused>,
+    t: u32,
+) -> Result<Reply, StepFault>
+    requires threads { length machine.old.state.threads ≡ journal.old.threads }
+    requires room { length journal.old.events < most_events }
+    requires thread { t < journal.old.threads }
+    ensures event { IfOk result (λ reply. journal.new ≡ with_event journal.old (record { thread = t; reply = reply })) }
+    ensures step { IfOk result (λ reply. Step machine.old.image machine.old.state t reply machine.new.state) }
+    ensures mark { OnOk result (HasOneAhead machine.old t checkpoints.old.items checkpoints.new.items) }
+    ensures image { machine.new.image ≡ machine.old.image }
+    ensures memory { IfErr result (λ fault. fault ≡ StepFault.OutOfMemory) }
+    ensures growth { OnErr result (M.refused memory) }
+    ensures err { OnErr result (journal.new ≡ journal.old) }
+    ensures err_machine { OnErr result (machine.new ≡ machine.old) }
+    ensures err_checkpoints { OnErr result (checkpoints.new.items ≡ checkpoints.old.items) }
+{
+    memory.reserve(checkpoints, 1)?;
+    let ahead = mark_ahead(memory, machine, t)?;
+    let reply = write_step(memory, journal, machine, t)?;
+    checkpoints.push_reserved(ahead);
+    Ok(reply)
 }
 
 /// What is left of a copy of the machine after a step of thread t. Only memory can fail.

@@ -21,23 +21,42 @@ impl<'p> Debugger<'p> {
         ensures memory { IfErr result (λ fault. fault ≡ DebugFault.OutOfMemory) }
         ensures growth { OnErr result (M.refused memory) }
     {
-        let events = self.journal.events();
         let mut machine = memory.copy_machine(&self.machine)?;
+        match self.to_next_stop(memory, &mut machine) {
+            Ok(position) => Ok((machine, position)),
+            Err(fault) => Err(fault),
+        }
+    }
+
+    /// Brings a copy of the machine to the least later stop, or to the end, and says where that is.
+    fn to_next_stop<M: Memory>(
+        &self,
+        memory: M,
+        machine: &mut Machine<'_>,
+    ) -> Result<u32, DebugFault>
+        requires before { self.now.position < length self.now.log.events }
+        requires at { machine.old ≡ machine_before self.now.image self.now.log self.now.position }
+        ensures stop { IfOk result (IsNextHalt self.now) }
+        ensures machine { IfOk result (λ found. machine.new ≡ machine_before self.now.image self.now.log found) }
+        ensures memory { IfErr result (λ fault. fault ≡ DebugFault.OutOfMemory) }
+        ensures growth { OnErr result (M.refused memory) }
+    {
+        let events = self.journal.events();
         let mut position = self.position as usize;
-        make_event(memory, &mut machine, &self.journal, position)?;
+        make_event(memory, machine, &self.journal, position)?;
         position += 1;
         while position < events.len() {
             if is_at_break(
-                &machine,
+                machine,
                 events[position].thread,
                 self.breakpoints.as_slice(),
             ) {
                 break;
             }
-            make_event(memory, &mut machine, &self.journal, position)?;
+            make_event(memory, machine, &self.journal, position)?;
             position += 1;
         }
-        Ok((machine, position as u32))
+        Ok(position as u32)
     }
 
     /// The greatest earlier stop, or the start: the stretches between checkpoints and marks are searched one by one, the last
@@ -75,13 +94,31 @@ impl<'p> Debugger<'p> {
         ensures growth { OnErr result (M.refused memory) }
     {
         let mut machine = from;
+        self.search_within(memory, &mut machine, start, until)
+    }
+
+    /// The greatest stop from `start` on and before `until`, if there is one. The machine at `start` is brought to `until`.
+    fn search_within<M: Memory>(
+        &self,
+        memory: M,
+        machine: &mut Machine<'_>,
+        start: u32,
+        until: u32,
+    ) -> Result<Option<u32>, DebugFault>
+        requires from { machine.old ≡ machine_before self.now.image self.now.log start }
+        requires order { start ≤ until }
+        requires within { until ≤ length self.now.log.events }
+        ensures stop { IfOk result (λ found. IsFound self.now start until found) }
+        ensures memory { IfErr result (λ fault. fault ≡ DebugFault.OutOfMemory) }
+        ensures growth { OnErr result (M.refused memory) }
+    {
         let mut found = None;
         for k in start..until {
             let thread = self.journal.events()[k as usize].thread;
-            if is_at_break(&machine, thread, self.breakpoints.as_slice()) {
+            if is_at_break(machine, thread, self.breakpoints.as_slice()) {
                 found = Some(k);
             }
-            make_event(memory, &mut machine, &self.journal, k as usize)?;
+            make_event(memory, machine, &self.journal, k as usize)?;
         }
         Ok(found)
     }

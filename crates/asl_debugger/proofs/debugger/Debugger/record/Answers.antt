@@ -6,33 +6,26 @@ use Rattle.asl_debugger.proofs.Positions.{threads_of}
 use Rattle.asl_debugger.proofs.Recording.{kept_with, kept_behind, step_between}
 use Rattle.asl_debugger.proofs.debugger.Debugger.record.Goals as goal
 
-pub mark_ahead-requires : goal.mark_ahead-requires
-mark_ahead-requires g c =
-    let d = c.self.inside in
-    let there = rw (← c.self.view_is) at c.requires.thread in
-    rw (threads_of d.machine.image d.journal d.position d.machine.state (ap (λ (m : Configuration). m.state) c.self.invariant.shown)) there
-
-pub write_step-requires-clause-threads : goal.write_step-requires-clause-threads
-write_step-requires-clause-threads g c =
+pub write_marked-requires-clause-threads : goal.write_marked-requires-clause-threads
+write_marked-requires-clause-threads g c =
     let d = c.self.inside in
     threads_of d.machine.image d.journal d.position d.machine.state (ap (λ (m : Configuration). m.state) c.self.invariant.shown)
 
 pub invariant_of-self-then-next-len : goal.invariant_of-self-then-next-len
 invariant_of-self-then-next-len g c =
     let d = c.self.inside in
-    let ahead = c.in_ok-ahead.ahead in
     let told = c.in_ok-reply.ensures in
+    let mark = told.mark in
     let end : d.position ≡ length d.journal.events = rw (← c.self.view_is) at c.requires.end in
     let room : length d.journal.events < most_events = rw (← c.self.view_is) at c.requires.room in
     let there : c.args.t < d.journal.threads = rw (← c.self.view_is) at c.requires.thread in
-    let items : c.push_reserved.new.self.items ≡ d.checkpoints.items ++ ahead ∷ [] = c.push_reserved.ensures.items ∙ ap (λ (rs : List Rest). rs ++ ahead ∷ []) c.in_ok-reserve.ensures.items in
     let due : d.position + 1 ≡ length d.checkpoints.items * d.spacing = c.if-next-len.true ∙ ap (λ (n : ℕ). n * d.spacing) (c.len.ensures ∙ d.checkpoints.ok.0) in
-    rw (told.event, items) (kept_with d.machine.image d.journal d.spacing d.position d.checkpoints.items d.marks.items d.machine c.write_step.new.machine c.args.t c.in_ok-reply.reply c.self.invariant end room there
-    told.image told.step ahead due c.in_ok-ahead.ensures.fits c.in_ok-ahead.ensures.step)
+    rw (told.event, mark.items) (kept_with d.machine.image d.journal d.spacing d.position d.checkpoints.items d.marks.items d.machine c.write_marked.new.machine c.args.t c.in_ok-reply.reply c.self.invariant end room there
+    told.image told.step mark.rest due mark.fits mark.ahead)
 
-pub write_step-requires-else-next-len-clause-threads :
-    goal.write_step-requires-else-next-len-clause-threads
-write_step-requires-else-next-len-clause-threads g c =
+pub write_step-requires-clause-threads :
+    goal.write_step-requires-clause-threads
+write_step-requires-clause-threads g c =
     let d = c.self.inside in
     threads_of d.machine.image d.journal d.position d.machine.state (ap (λ (m : Configuration). m.state) c.self.invariant.shown)
 
@@ -44,7 +37,7 @@ invariant_of-self-else-next-len g c =
     let room : length d.journal.events < most_events = rw (← c.self.view_is) at c.requires.room in
     let there : c.args.t < d.journal.threads = rw (← c.self.view_is) at c.requires.thread in
     let none_due = λ (e : d.position + 1 ≡ length d.checkpoints.items * d.spacing). c.if-next-len.false (e ∙ sym (ap (λ (n : ℕ). n * d.spacing) (c.len.ensures ∙ d.checkpoints.ok.0))) in
-    rw told.event (kept_behind d.machine.image d.journal d.spacing d.position d.checkpoints.items d.marks.items d.machine c.write_step-else-next-len.new.machine c.args.t c.in_ok-reply-2.reply c.self.invariant end room
+    rw told.event (kept_behind d.machine.image d.journal d.spacing d.position d.checkpoints.items d.marks.items d.machine c.write_step.new.machine c.args.t c.in_ok-reply-2.reply c.self.invariant end room
     there told.image told.step none_due)
 
 pub returns-in_ok-reply-clause-step : goal.returns-in_ok-reply-clause-step
@@ -54,7 +47,7 @@ returns-in_ok-reply-clause-step g c =
     let end : d.position ≡ length d.journal.events = rw (← c.self.view_is) at c.requires.end in
     let room : length d.journal.events < most_events = rw (← c.self.view_is) at c.requires.room in
     let there : c.args.t < d.journal.threads = rw (← c.self.view_is) at c.requires.thread in
-    rw (← c.self.view_is, told.event) (step_between d.machine.image d.journal d.spacing d.position d.checkpoints.items d.marks.items d.machine c.write_step.new.machine c.args.t c.in_ok-reply.reply c.self.invariant end room
+    rw (← c.self.view_is, told.event) (step_between d.machine.image d.journal d.spacing d.position d.checkpoints.items d.marks.items d.machine c.write_marked.new.machine c.args.t c.in_ok-reply.reply c.self.invariant end room
     there told.image told.step d.breakpoints.items)
 
 pub returns-in_ok-reply-2-clause-step : goal.returns-in_ok-reply-2-clause-step
@@ -64,5 +57,5 @@ returns-in_ok-reply-2-clause-step g c =
     let end : d.position ≡ length d.journal.events = rw (← c.self.view_is) at c.requires.end in
     let room : length d.journal.events < most_events = rw (← c.self.view_is) at c.requires.room in
     let there : c.args.t < d.journal.threads = rw (← c.self.view_is) at c.requires.thread in
-    rw (← c.self.view_is, told.event) (step_between d.machine.image d.journal d.spacing d.position d.checkpoints.items d.marks.items d.machine c.write_step-else-next-len.new.machine c.args.t c.in_ok-reply-2.reply
+    rw (← c.self.view_is, told.event) (step_between d.machine.image d.journal d.spacing d.position d.checkpoints.items d.marks.items d.machine c.write_step.new.machine c.args.t c.in_ok-reply-2.reply
     c.self.invariant end room there told.image told.step d.breakpoints.items)

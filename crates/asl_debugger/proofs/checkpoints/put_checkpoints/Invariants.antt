@@ -1,6 +1,6 @@
 use Rattle.std.proofs.Common.{length, ◌-◌}
-use Rattle.asl_debugger.proofs.Marks.{AreSoFar}
-use Rattle.asl_debugger.proofs.checkpoints.checkpoints_of.Given as goal
+use Rattle.asl_debugger.specs.Growing.{AreSoFar}
+use Rattle.asl_debugger.proofs.checkpoints.put_checkpoints.Given as goal
 
 abbrev pub invariant-loop-here : goal.invariant-loop-here
 invariant-loop-here g l = AreSoFar l.program l.journal l.spacing l.here l.machine l.checkpoints.items

@@ -4,8 +4,8 @@ use Rattle.asl_journal.specs.declared.event.Event.{Event}
 use Rattle.asl_debugger.specs.Session.{Session}
 use Rattle.asl_debugger.proofs.Positions.{thread_there}
 use Rattle.asl_debugger.proofs.Halts.{is_stop, is_no_stop, searching_next, found_next}
-use Rattle.asl_debugger.proofs.debugger.Debugger.next_stop.Goals as goal
-use Rattle.asl_debugger.proofs.debugger.Debugger.next_stop.Goals.{else-loop-position-test, then-loop-position-test+then-is_at_break}
+use Rattle.asl_debugger.proofs.debugger.Debugger.to_next_stop.Goals as goal
+use Rattle.asl_debugger.proofs.debugger.Debugger.to_next_stop.Goals.{else-loop-position-test, then-loop-position-test+then-is_at_break}
 
 pub is_at_break-requires : goal.is_at_break-requires
 is_at_break-requires g c =

@@ -3,7 +3,7 @@ use Rattle.asl_code.specs.declared.image.Image.{Image}
 use Rattle.asl_machine.specs.View.{Configuration}
 use Rattle.asl_debugger.specs.Computed.{machine_before}
 use Rattle.asl_debugger.proofs.Positions.{kept_at}
-use Rattle.asl_debugger.proofs.debugger.Debugger.show.Goals as goal
+use Rattle.asl_debugger.proofs.debugger.Debugger.go_on.Goals as goal
 
 pub invariant_of-self : goal.invariant_of-self
 invariant_of-self g c =

@@ -4,8 +4,8 @@ use Rattle.asl_journal.specs.declared.event.Event.{Event}
 use Rattle.asl_debugger.specs.Session.{Session}
 use Rattle.asl_debugger.proofs.Positions.{thread_there}
 use Rattle.asl_debugger.proofs.Halts.{is_stop, is_no_stop, found_here, found_not_here}
-use Rattle.asl_debugger.proofs.debugger.Debugger.last_within.Goals as goal
-use Rattle.asl_debugger.proofs.debugger.Debugger.last_within.Goals.{then-is_at_break, else-is_at_break}
+use Rattle.asl_debugger.proofs.debugger.Debugger.search_within.Goals as goal
+use Rattle.asl_debugger.proofs.debugger.Debugger.search_within.Goals.{then-is_at_break, else-is_at_break}
 
 pub is_at_break-requires : goal.is_at_break-requires
 is_at_break-requires g c =

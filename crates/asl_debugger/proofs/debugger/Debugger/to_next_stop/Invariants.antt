@@ -1,6 +1,6 @@
 use Rattle.std.proofs.Common.{length, ◌-◌}
 use Rattle.asl_debugger.proofs.Halts.{IsSearching}
-use Rattle.asl_debugger.proofs.debugger.Debugger.next_stop.Given as goal
+use Rattle.asl_debugger.proofs.debugger.Debugger.to_next_stop.Given as goal
 
 abbrev pub invariant-loop-position : goal.invariant-loop-position
 invariant-loop-position g l = IsSearching l.self l.machine l.position
