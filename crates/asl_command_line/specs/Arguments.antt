@@ -50,9 +50,9 @@ explain_app = with_rule (with_rule (with_rule (new_app (codes "explain")) (value
 abbrev pub lists_app : App
 lists_app = with_rule (with_rule (new_app (codes "lists")) (value_rule (codes "k"))) (values_rule (codes "entry"))
 
--- `diagnose [--k K] [--asm]`
+-- `diagnose [--k K] [--asm] [--all]`
 abbrev pub diagnose_app : App
-diagnose_app = with_rule (with_rule (new_app (codes "diagnose")) (value_rule (codes "k"))) (flag_rule (codes "asm"))
+diagnose_app = with_rule (with_rule (with_rule (new_app (codes "diagnose")) (value_rule (codes "k"))) (flag_rule (codes "asm"))) (flag_rule (codes "all"))
 
 -- `c [--k K] [--check] [--entry F].. [--extern F=NAME]..`
 abbrev pub c_app : App

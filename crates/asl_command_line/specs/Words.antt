@@ -92,8 +92,9 @@ IsCommand name rows (command.Explain k_limit all classes) =
     (name ≡ codes "explain") × IsLengthAt rows k_limit × IsFlagAt (codes "all") rows all × IsFlagAt (codes "classes") rows classes
 IsCommand name rows (command.Lists k_limit entries) =
     (name ≡ codes "lists") × IsLimitAt rows k_limit × AreEntriesAt rows (map string_bytes entries.items)
-IsCommand name rows (command.Diagnose assembly k_limit) =
-    (name ≡ codes "diagnose") × IsFlagAt (codes "asm") rows assembly × IsLengthAt rows k_limit
+IsCommand name rows (command.Diagnose assembly k_limit all) =
+    (name ≡ codes "diagnose") × IsFlagAt (codes "asm") rows assembly × IsLengthAt rows k_limit × IsFlagAt (codes "all") rows all
+    × (all ≡ true → assembly ≡ false)
 IsCommand name rows (command.PrintC k_limit checks entries externs) =
     (name ≡ codes "c") × IsLimitAt rows k_limit × IsFlagAt (codes "check") rows checks × AreEntriesAt rows (map string_bytes entries.items)
     × AreExterns (words_at (codes "extern") rows) externs.items
@@ -147,6 +148,12 @@ pub record TellsNoExtern (rows : List Row) (text : Text) : Type 0 where
   pub wrong : IsWrongOf (words_at (codes "extern") rows) word why
   pub text_is : text ≡ invalid_text word (codes "--extern <F=NAME>") (why_text why)
 
+-- `--all` and `--asm` are both given; the text says that they do not go together
+pub record TellsNoSource (rows : List Row) (text : Text) : Type 0 where
+  pub all : IsFlagAt (codes "all") rows true
+  pub assembly : IsFlagAt (codes "asm") rows true
+  pub text_is : text ≡ usage_text (codes "the argument '--all' cannot be used with '--asm'")
+
 -- the word asks the debugger for nothing, alone and with another after it
 pub record IsNoWord (name : Text) : Type 0 where
   pub alone : (asked : DebugWord) → IsDebugWord (name ∷ []) asked → ⊥
@@ -168,7 +175,7 @@ TellsNoWord words text =
 abbrev pub AskNothing : List Row → Type 0
 AskNothing rows = (words : List DebugWord) → AreDebugWords (words_at (codes "words") rows) words → ⊥
 
--- the command has this name, and one of its values is none, as the text says
+-- the command has this name, and one of its values is none, or two of its flags do not go together, as the text says
 abbrev pub IsMisused : Text → List Row → Text → Type 0
 IsMisused name rows text =
     ((name ≡ codes "step") × (TellsNoNumber (codes "threads") (codes "--threads <N>") rows text ⊎ TellsNoSchedule rows text))
@@ -178,7 +185,8 @@ IsMisused name rows text =
     ⊎ (((name ≡ codes "debug") × AskNothing rows × TellsNoWord (words_at (codes "words") rows) text)
     ⊎ ((IsUnknown name × (text ≡ usage_text (codes "the command is unknown")))
     ⊎ ((((name ≡ codes "lists") ⊎ (name ≡ codes "c")) × (TellsNoLimit rows text ⊎ TellsNoEntry rows text))
-    ⊎ ((name ≡ codes "c") × TellsNoExtern rows text))))))
+    ⊎ (((name ≡ codes "c") × TellsNoExtern rows text)
+    ⊎ ((name ≡ codes "diagnose") × TellsNoSource rows text)))))))
 
 -- what the command of this name with these values asks for
 abbrev pub IsReading : Text → List Row → Invocation → Type 0

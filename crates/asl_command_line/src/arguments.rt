@@ -88,7 +88,8 @@ fn diagnose_command<'a>(alloc: Global) -> Result<Command<'a>, AllocError>
 {
     let command = named(alloc, "diagnose", "asl diagnose")?;
     let command = with_argument(command, value(alloc, "k", "K"))?;
-    with_argument(command, flag(alloc, "asm"))
+    let command = with_argument(command, flag(alloc, "asm"))?;
+    with_argument(command, flag(alloc, "all"))
 }
 
 fn c_command<'a>(alloc: Global) -> Result<Command<'a>, AllocError>

@@ -65,6 +65,8 @@ pub enum Command {
         assembly: bool,
         /// How many operations a path of a needed lock has at most.
         k_limit: PathLimit,
+        /// Whether what the text of a source may lack is told, too. Of an assembly text there is nothing to tell.
+        all: bool,
     },
     /// `c`: the C program of the program that is inferred for the input, which is a source.
     PrintC {

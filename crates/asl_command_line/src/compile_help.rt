@@ -70,7 +70,7 @@ pub const CHECK: &str =
         \u{20} Magic .. Trailing(n)      the first thing that is wrong with an image: asl dis --help\n\
         \u{20} Verify(RULE)              the program breaks a rule of docs/FORMATS.md\n\
         \u{20} Registers(f) .. TooManyLocks(r)  no lists are inferred for the source: asl compile --help\n\
-        \u{20} OtherCode(pc)             the instruction at pc is not the source's; the number of instructions where a table is not\n\
+        \u{20} OtherCode(pc): TEXT       the instruction at pc is not the source's, and TEXT says what both have; the number of instructions where a table is not\n\
         \u{20} Uncovered(section, LOCK)  the section needs LOCK, and no lock of its list covers it\n\
         \u{20} Unguarded(section, LOCK)  an expression of the section's list reads the cell of LOCK, and no lock of the list covers it\n\
         \u{20} Write                     standard output failed; a part of the output may have been written\n\
@@ -177,13 +177,16 @@ pub const DIAGNOSE: &str =
         Options:\n\
         \u{20}     --k <K>  How many operations a path of a lock has at most, 0 to 8; 3 where it is not given\n\
         \u{20}     --asm    Takes the input as an assembly text, in place of a source\n\
+        \u{20}     --all    Tells what the text may lack, too: calls of functions, and what fills pointers; not with --asm\n\
         \u{20} -h, --help   Print help\n\
         \n\
         Input: a source (docs/SOURCE.md), or with --asm an assembly text (docs/FORMATS.md)\n\
-        Output: nothing where there is no fault; else line and column, both from 1, the fault's name, a sentence, the line of the text with a mark below the place, and what helps\n\
+        Output: nothing where there is no fault; else line and column, both from 1, the fault's name, a sentence, the line of the text with a mark below the place, and what helps;\n\
+        with --all then the functions that `main` does not reach, and the loads and stores through a pointer of no class (docs/ANALYSIS.md)\n\
         \n\
         Examples, from the top of the repository:\n\
         \u{20} ./asl diagnose < examples/counter.asl\n\
+        \u{20} ./asl diagnose --all < examples/counter.asl\n\
         \u{20} ./asl diagnose --asm < examples/counter.asm\n\
         \u{20} echo 'fn main(t) { x = 1 + 1; return x; }' | ./asl diagnose\n\
         \n\

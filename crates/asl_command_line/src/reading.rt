@@ -2,7 +2,7 @@
 ghost use Rattle.std.specs.Prelude.{◌≡◌, ◌≢◌, true, map, IfOk, string_bytes, codes};
 ghost use Rattle.clap.specs.Words.{found_of, kind_of, rows_of, subcommand_rows_of};
 ghost use Rattle.asl_command_line.specs.Externs.{why_text};
-ghost use Rattle.asl_command_line.specs.Words.{AreEntriesAt, AsksFor, IsLimitAt, IsReading, IsTaken};
+ghost use Rattle.asl_command_line.specs.Words.{AreEntriesAt, AsksFor, IsLengthAt, IsLimitAt, IsReading, IsTaken};
 ghost use Rattle.asl_command_line.specs.Reading.{IsRefusal, IsUsage};
 ghost use Rattle.asl_command_line.specs.Usage.{SaysWhereHelpIs, a_name, invalid_text};
 
@@ -206,12 +206,30 @@ fn read_diagnose(alloc: Global, values: &ArgMatches<'_>) -> Result<Invocation, A
     ensures { IfOk result (IsReading (codes "diagnose") (rows_of (found_of values.now))) }
 {
     match k_limit_at(values) {
-        Ok(k_limit) => {
-            let assembly = flag_at(values, "asm");
-            Ok(Invocation::Alone(Command::Diagnose { assembly, k_limit }))
-        }
+        Ok(k_limit) => read_diagnose_flags(alloc, values, k_limit),
         Err(word) => invalid(alloc, word, "--k <K>", A_PATH_LIMIT),
     }
+}
+
+/// What `diagnose` is asked for, with paths of this length.
+fn read_diagnose_flags(
+    alloc: Global,
+    values: &ArgMatches<'_>,
+    k_limit: PathLimit,
+) -> Result<Invocation, AllocError>
+    requires { IsLengthAt (rows_of (found_of values.now)) k_limit }
+    ensures { IfOk result (IsReading (codes "diagnose") (rows_of (found_of values.now))) }
+{
+    let assembly = flag_at(values, "asm");
+    let all = flag_at(values, "all");
+    if assembly && all {
+        return wrong_usage(alloc, "the argument '--all' cannot be used with '--asm'");
+    }
+    Ok(Invocation::Alone(Command::Diagnose {
+        assembly,
+        k_limit,
+        all,
+    }))
 }
 
 fn read_c(alloc: Global, values: &ArgMatches<'_>) -> Result<Invocation, AllocError>

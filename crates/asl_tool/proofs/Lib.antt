@@ -19,3 +19,4 @@ mod OverMemory
 mod Printing
 mod Found
 mod Checking
+mod Diagnosing

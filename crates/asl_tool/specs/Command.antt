@@ -13,7 +13,6 @@ use Rattle.asl_command_line.specs.declared.command.Command.TheVariants as comman
 use Rattle.asl_tool.specs.declared.command_fault.CommandFault.{CommandFault}
 use Rattle.asl_tool.specs.declared.command_fault.CommandFault.TheVariants as fault
 use Rattle.asl_tool.specs.Program.{IsNoProgram}
-use Rattle.asl_diagnose.specs.RefusalText.{IsTold}
 use Rattle.asl_class_text.specs.Classes.{IsClassText}
 use Rattle.asl_explain.specs.Told.{IsText}
 use Rattle.asl_explain.specs.Explained as explain
@@ -27,6 +26,7 @@ use Rattle.asl_tool.specs.C.{IsPrinted, IsRefusedPrinting}
 use Rattle.asl_tool.specs.Check.{IsChecked, IsRefusedCheck}
 use Rattle.asl_tool.specs.Compile.{IsCompiled, IsRefusedSource}
 use Rattle.asl_tool.specs.Debug.{IsDebugged}
+use Rattle.asl_tool.specs.Diagnose.{IsDiagnosed}
 use Rattle.asl_tool.specs.Log.{IsLogged}
 use Rattle.asl_tool.specs.Replay.{IsReplayed, HasRefusedReplay}
 use Rattle.asl_tool.specs.Step.{IsRecorded, IsStepped, IsSteppable, HasRefusedRun}
@@ -58,7 +58,7 @@ IsOutput (command.Check k_limit all) input text = IsChecked input k_limit text
 IsOutput command.Map input text = IsMapText input text
 IsOutput (command.Explain k_limit all classes) input text = IsExplained input k_limit all classes text
 IsOutput (command.Lists k_limit entries) input text = IsListed input k_limit (each string_bytes entries.items) text
-IsOutput (command.Diagnose assembly k_limit) input text = IsTold input assembly k_limit text
+IsOutput (command.Diagnose assembly k_limit all) input text = IsDiagnosed input assembly k_limit all text
 IsOutput (command.PrintC k_limit checks entries externs) input text = IsPrinted input k_limit checks (each string_bytes entries.items) externs.items text
 IsOutput command.Replay input text = IsReplayed input text
 IsOutput (command.Log trace) input text = IsLogged input trace text
@@ -129,7 +129,7 @@ IsRefusedCommand (command.Check k_limit all) input f = IsRefusedCheck input k_li
 IsRefusedCommand command.Map input f = IsRefusedMap input f
 IsRefusedCommand (command.Explain k_limit all classes) input f = IsRefusedExplain input k_limit f
 IsRefusedCommand (command.Lists k_limit entries) input f = IsRefusedListing input k_limit (each string_bytes entries.items) f
-IsRefusedCommand (command.Diagnose assembly k_limit) input f = IsRefusedDiagnose f
+IsRefusedCommand (command.Diagnose assembly k_limit all) input f = IsRefusedDiagnose f
 IsRefusedCommand (command.PrintC k_limit checks entries externs) input f = IsRefusedPrinting input k_limit (each string_bytes entries.items) externs.items f
 IsRefusedCommand command.Replay input f = IsRefusedReplay input f
 IsRefusedCommand (command.Log trace) input f = IsRefusedReplay input f

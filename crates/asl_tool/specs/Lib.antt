@@ -6,6 +6,7 @@ pub mod Step
 pub mod Replay
 pub mod Log
 pub mod Debug
+pub mod Diagnose
 pub mod Compile
 pub mod C
 pub mod Check

@@ -48,6 +48,6 @@ IsSettled (command.Check k_limit all) = ⊥
 IsSettled command.Map = ⊥
 IsSettled (command.Explain k_limit all classes) = ⊥
 IsSettled (command.Lists k_limit entries) = ⊥
-IsSettled (command.Diagnose assembly k_limit) = ⊥
+IsSettled (command.Diagnose assembly k_limit all) = ⊥
 IsSettled (command.PrintC k_limit checks entries externs) = ⊥
 IsSettled c = Unit {0}

@@ -55,9 +55,11 @@ pub fn output_of(alloc: Global, command: &Command, input: &[u8]) -> Result<Vec<u
             entries.as_slice(),
             input,
         ),
-        Command::Diagnose { assembly, k_limit } => diagnose::diagnosed_input(
-            alloc, *assembly, k_limit, input,
-        ),
+        Command::Diagnose {
+            assembly,
+            k_limit,
+            all,
+        } => diagnose::diagnosed_input(alloc, *assembly, k_limit, *all, input),
         Command::PrintC {
             k_limit,
             checks,

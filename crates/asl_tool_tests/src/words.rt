@@ -17,7 +17,7 @@ enum Wanted {
     Map,
     Explain(u32, bool, bool),
     Lists(Option<u32>, usize),
-    Diagnose(bool, u32),
+    Diagnose(bool, u32, bool),
     PrintC(Option<u32>, bool, usize, usize),
     Debug(&'static [DebugWord]),
     Assemble,
@@ -75,8 +75,12 @@ fn is_command(got: &Command, wanted: &Wanted) -> bool {
         } => {
             matches!(wanted, Wanted::PrintC(k, flag, count, more) if limit_of(k_limit) == *k && checks == flag && entries.len() == *count && externs.len() == *more)
         }
-        Command::Diagnose { assembly, k_limit } => {
-            matches!(wanted, Wanted::Diagnose(is_assembly, k) if assembly == is_assembly && k_limit.operations() == *k)
+        Command::Diagnose {
+            assembly,
+            k_limit,
+            all,
+        } => {
+            matches!(wanted, Wanted::Diagnose(is_assembly, k, flag) if assembly == is_assembly && k_limit.operations() == *k && all == flag)
         }
         Command::Debug { words } =>
             matches!(wanted, Wanted::Debug(all) if words.as_slice() == *all),
@@ -317,7 +321,7 @@ fn compiling(rt: HostRuntime) {
     check(&rt, &COMPILATIONS);
 }
 
-static CHECKS: [Row; 36] = [
+static CHECKS: [Row; 38] = [
     ("check", Wanted::Check(3, false)),
     ("check --k 0", Wanted::Check(0, false)),
     ("check --k=8", Wanted::Check(8, false)),
@@ -362,10 +366,12 @@ static CHECKS: [Row; 36] = [
     ("c --k 9", Wanted::WrongUsage),
     ("c --entry 1f", Wanted::WrongUsage),
     ("c --text", Wanted::WrongUsage),
-    ("diagnose", Wanted::Diagnose(false, 3)),
-    ("diagnose --asm --k 0", Wanted::Diagnose(true, 0)),
+    ("diagnose", Wanted::Diagnose(false, 3, false)),
+    ("diagnose --asm --k 0", Wanted::Diagnose(true, 0, false)),
+    ("diagnose --k 4 --all", Wanted::Diagnose(false, 4, true)),
     ("diagnose --k 9", Wanted::WrongUsage),
-    ("diagnose --all", Wanted::WrongUsage),
+    ("diagnose --all --asm", Wanted::WrongUsage),
+    ("diagnose --classes", Wanted::WrongUsage),
 ];
 
 #[test]
