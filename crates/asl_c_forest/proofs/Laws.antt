@@ -11,8 +11,8 @@ use Rattle.asl_lock_forest.specs.Keys.{key}
 use Rattle.asl_lock_forest.specs.Holding.{Holding, Request, held, asked, HoldsNothing, CanGrant, IsLawful}
 use Rattle.asl_lock_forest.specs.Request.{names, names_once, GoesWithOthers, IsKeptFrom, IsRefusedRequest, IsOfClasses}
 use Rattle.asl_lock_forest.proofs.Laws.{tell_nodes}
-use Rattle.asl_c_forest.specs.declared.c_request.Ask.{Ask}
-use Rattle.asl_c_forest.specs.Asks.{node_of, ask_of}
+use Rattle.asl_lock_queue.specs.declared.ask.Ask.{Ask}
+use Rattle.asl_lock_queue.specs.Asks.{node_of, ask_of}
 use Rattle.asl_c_forest.specs.Status.{is_there, has_classes}
 use Rattle.asl_mode_lanes.specs.Row.{mode_of}
 use Rattle.std.proofs.lemmas.List.{drop_more, get_or-map, length-map}

@@ -1,19 +1,13 @@
 -- A request that rises names no node twice.
 use Rattle.std.proofs.Common.{◌≡◌, true, false, not, ◌&&◌, ◌||◌, [], ◌∷◌, Option, None, Some, refl, ap, sym, ◌∙◌, inl, inr}
-use Rattle.std.proofs.lemmas.Bool.{and_parts, and_from}
+use Rattle.std.proofs.lemmas.Bool.{and_parts}
 use Rattle.asl_lock_forest.specs.declared.node.Node.{Node}
 use Rattle.asl_lock_forest.specs.Holding.{Request}
 use Rattle.asl_lock_forest.specs.Request.{names, names_once}
 use Rattle.asl_lock_forest.proofs.Laws.{tell_nodes}
 use Rattle.asl_lock_queue.specs.Order.{is_below, is_after, rises_after, is_rising}
-use Rattle.asl_c_forest.proofs.OrderLaws.{below_apart, below_trans}
-
--- what rises after a node rises after one that is below it
-rises_below : (m n : Node) (request : Request) → is_below m n ≡ true → rises_after (Some n) request ≡ true → rises_after (Some m) request ≡ true
-rises_below m n [] below rises = refl
-rises_below m n (ask ∷ others) below rises =
-    let parts = and_parts (is_below n ask.0) (rises_after (Some ask.0) others) rises in
-    and_from _ _ (below_trans m n ask.0 below parts.0) parts.1
+use Rattle.asl_lock_queue.proofs.OrderLaws.{below_apart}
+use Rattle.asl_lock_queue.proofs.RisingLaws.{rises_below}
 
 -- what rises after a node does not name it
 unnamed : (n : Node) (request : Request) → rises_after (Some n) request ≡ true → names request n ≡ false

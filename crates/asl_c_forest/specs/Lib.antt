@@ -1,4 +1,4 @@
-pub mod Asks
+pub use Rattle.asl_lock_queue.specs.Asks
 pub mod Status
 pub mod QueueStatus
 -- Machinery: what a request must be for the forest, and what a handle owns.

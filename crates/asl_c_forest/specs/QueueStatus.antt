@@ -6,9 +6,9 @@ use Rattle.asl_lock_forest.specs.Request.{asks_modes, asks_parents}
 use Rattle.asl_lock_queue.specs.Order.{is_rising}
 use Rattle.asl_lock_queue.specs.Waiting.{is_absent}
 use Rattle.asl_lock_queue.specs.QueueState.{QueueState}
-use Rattle.asl_c_forest.specs.declared.c_request.Ask.{Ask}
-use Rattle.asl_c_forest.specs.Asks.{ask_of}
-use Rattle.asl_c_forest.specs.Status.{first_failing, has_kinds, has_classes, holds_nothing}
+use Rattle.asl_lock_queue.specs.declared.ask.Ask.{Ask}
+use Rattle.asl_lock_queue.specs.Asks.{has_kinds, ask_of}
+use Rattle.asl_c_forest.specs.Status.{first_failing, has_classes, holds_nothing}
 
 -- why the thread cannot ask this
 unfoldable pub queue_fault : QueueState → ℕ → List Ask → ℕ

@@ -11,27 +11,19 @@ use Rattle.asl_lock_forest.specs.declared.node.Node.TheVariants.{Root, Class, Le
 use Rattle.asl_lock_forest.specs.Held.{Held}
 use Rattle.asl_lock_forest.specs.Holding.{Holding, held}
 use Rattle.asl_lock_forest.specs.Request.{names_once, asks_modes, asks_parents}
-use Rattle.asl_c_forest.specs.declared.c_request.Ask.{Ask}
-use Rattle.asl_c_forest.specs.Asks.{node_of, ask_of}
+use Rattle.asl_lock_queue.specs.declared.ask.Ask.{Ask}
+use Rattle.asl_lock_queue.specs.Asks.{is_kind, has_kinds, node_of, ask_of}
 
 -- the status of the first test that fails, and 0 where none does
 abbrev pub first_failing : List (Bool × ℕ) → ℕ
 first_failing [] = 0
 first_failing (test ∷ others) = if test.0 then first_failing others else test.1
 
--- whether a kind of node has this number
-abbrev pub is_kind : ℕ → Bool
-is_kind kind = nat_lt kind 3
-
 -- whether the node's class, if it has one, is below the count
 abbrev pub is_there : ℕ → Node → Bool
 is_there classes Root = true
 is_there classes (Class class) = nat_lt class classes
 is_there classes (Leaf cell class) = nat_lt class classes
-
--- whether each kind is one
-abbrev pub has_kinds : List Ask → Bool
-has_kinds asks = list_all (λ ask. is_kind ask.kind) asks
 
 -- whether each node's class is below the count
 abbrev pub has_classes : ℕ → List Ask → Bool

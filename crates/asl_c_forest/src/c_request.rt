@@ -1,54 +1,11 @@
-//! What C asks for: nodes and modes by their numbers.
+//! Requests, from the words of C.
 ghost use Rattle.std.specs.Prelude.{◌≡◌, ◌<◌, ◌≤◌, [], map, length, vec_capacity, IfOk, OnOk, OnErr};
-ghost use Rattle.asl_mode_lanes.specs.Row.{mode_of};
-ghost use Rattle.asl_c_forest.specs.Asks.{node_of, ask_of};
+ghost use Rattle.asl_lock_queue.specs.Asks.{ask_of};
 
-use asl_code::Cell;
 use asl_lock_forest::Node;
+use asl_lock_queue::{Ask, mode, node};
 use asl_mode_lanes::Mode;
 use std::alloc::{AllocError, Global};
-
-/// A node and a mode: kind 0 is the root, 1 a class, 2 the leaf of a cell.
-#[repr(C)]
-#[derive(Clone, Copy)]
-pub struct Ask {
-    pub kind: u8,
-    pub mode: u8,
-    pub offset: u8,
-    pub class: u16,
-    pub object: u16,
-}
-
-/// The node; of a kind that there is not, the leaf.
-pub fn node(ask: Ask) -> Node
-    ensures { result ≡ node_of ask }
-{
-    match ask.kind {
-        0 => Node::Root,
-        1 => Node::Class(ask.class),
-        _ => Node::Leaf(
-            Cell {
-                object: ask.object,
-                offset: ask.offset,
-            },
-            ask.class,
-        ),
-    }
-}
-
-/// The mode of this code; of a code that no mode has, `NL`.
-pub fn mode(code: u8) -> Mode
-    ensures { result ≡ mode_of code }
-{
-    match code {
-        1 => Mode::IS,
-        3 => Mode::IX,
-        5 => Mode::S,
-        7 => Mode::SIX,
-        15 => Mode::X,
-        _ => Mode::NL,
-    }
-}
 
 /// The node and the mode.
 fn pair(ask: Ask) -> (Node, Mode)

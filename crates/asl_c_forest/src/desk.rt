@@ -5,13 +5,13 @@ ghost use Rattle.asl_lock_forest.specs.Holding.{no_holding, grant};
 ghost use Rattle.asl_lock_queue.specs.Waiting.{MayGo, IsKept};
 ghost use Rattle.asl_lock_queue.specs.QueueState.{IsQueue};
 ghost use Rattle.asl_lock_queue.specs.Served.{IsServed};
-ghost use Rattle.asl_c_forest.specs.Asks.{ask_of};
+ghost use Rattle.asl_lock_queue.specs.Asks.{ask_of};
 ghost use Rattle.asl_c_forest.specs.QueueStatus.{queue_fault};
 
-use crate::c_request::{Ask, read_into};
+use crate::c_request::read_into;
 use crate::queue_fits::queue_fault;
 use asl_lock_forest::Node;
-use asl_lock_queue::Queue;
+use asl_lock_queue::{Ask, Queue};
 use asl_mode_lanes::Mode;
 use std::alloc::{AllocError, Global};
 use std::marker::Model;

@@ -4,17 +4,17 @@ ghost use Rattle.asl_code.specs.Versions.{newest_threads};
 ghost use Rattle.asl_lock_forest.specs.Node.{IsThere};
 ghost use Rattle.asl_lock_forest.specs.Holding.{CanGrant};
 ghost use Rattle.asl_lock_forest.specs.Request.{IsRefusedRequest};
-ghost use Rattle.asl_c_forest.specs.Asks.{node_of, ask_of};
+ghost use Rattle.asl_lock_queue.specs.Asks.{node_of, ask_of};
 ghost use Rattle.asl_c_forest.specs.Fits.{Fits};
 ghost use Rattle.asl_c_forest.specs.Status.{new_fault, acquire_fault, mode_fault, covers_fault, release_fault};
 
-use crate::c_request::{Ask, mode, node};
 use crate::request_fits::{
     has_classes, has_kinds, has_modes, has_parents, holds_nothing, is_class, is_distinct, is_kind,
     is_there, is_thread,
 };
 use asl_code::NEWEST_LIMITS;
 use asl_lock_forest::Forest;
+use asl_lock_queue::{Ask, mode, node};
 
 /// Why no forest can be made for so many threads: 0, or the status of what is wrong.
 #[tactic(auto, unfolding(crate::specs::Status::new_fault))]

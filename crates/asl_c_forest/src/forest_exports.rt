@@ -3,14 +3,15 @@ ghost use Rattle.std.specs.Prelude.{◌≡◌, ◌≢◌, ◌<◌, ◌≤◌, �
 ghost use Rattle.asl_code.specs.Versions.{newest_threads};
 ghost use Rattle.asl_lock_forest.specs.Holding.{grant, release, no_holding, CanGrant};
 ghost use Rattle.asl_lock_forest.specs.Request.{IsRefusedRequest};
-ghost use Rattle.asl_c_forest.specs.Asks.{ask_of};
+ghost use Rattle.asl_lock_queue.specs.Asks.{ask_of};
 ghost use Rattle.asl_c_forest.specs.Fits.{Fits};
 ghost use Rattle.asl_c_forest.specs.Status.{new_fault, acquire_fault, release_fault};
 
-use crate::c_request::{Ask, read};
+use crate::c_request::read;
 use crate::fits;
 use crate::forest_handle::Handle;
 use asl_lock_forest::Forest;
+use asl_lock_queue::Ask;
 use std::alloc::{AllocError, Global};
 
 /// A forest on the heap.

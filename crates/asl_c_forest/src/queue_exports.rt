@@ -4,15 +4,15 @@ ghost use Rattle.asl_code.specs.Versions.{newest_threads};
 ghost use Rattle.asl_lock_forest.specs.Holding.{grant, no_holding};
 ghost use Rattle.asl_lock_queue.specs.Waiting.{MayGo, IsKept};
 ghost use Rattle.asl_lock_queue.specs.Served.{IsServed};
-ghost use Rattle.asl_c_forest.specs.Asks.{ask_of};
+ghost use Rattle.asl_lock_queue.specs.Asks.{ask_of};
 ghost use Rattle.asl_c_forest.specs.Status.{new_fault};
 ghost use Rattle.asl_c_forest.specs.QueueStatus.{queue_fault, leave_fault};
 
-use crate::c_request::Ask;
 use crate::desk::Desk;
 use crate::fits::new_fault;
 use crate::queue_fits::leave_fault;
 use crate::queue_handle::QueueHandle;
+use asl_lock_queue::Ask;
 use std::alloc::{AllocError, Global};
 
 /// A queue on the heap.

@@ -3,14 +3,13 @@ ghost use Rattle.std.specs.Prelude.{◌≡◌, ◌≢◌, ◌<◌, ◌≤◌, Is
 ghost use Rattle.asl_lock_forest.specs.Holding.{HoldsNothing};
 ghost use Rattle.asl_lock_queue.specs.Waiting.{IsAbsent};
 ghost use Rattle.asl_lock_queue.specs.QueueState.{IsAskable};
-ghost use Rattle.asl_c_forest.specs.Asks.{ask_of};
+ghost use Rattle.asl_lock_queue.specs.Asks.{ask_of};
 ghost use Rattle.asl_c_forest.specs.Status.{holds_nothing};
 ghost use Rattle.asl_c_forest.specs.QueueStatus.{queue_fault, leave_fault};
 
-use crate::c_request::Ask;
 use crate::request_fits::{has_classes, has_kinds, has_modes, has_parents, is_rising, is_thread};
 use asl_lock_forest::Node;
-use asl_lock_queue::Queue;
+use asl_lock_queue::{Ask, Queue};
 use asl_mode_lanes::Mode;
 
 /// Why the thread cannot ask this: 0, or the status of the first thing that is wrong.

@@ -2,15 +2,14 @@
 ghost use Rattle.std.specs.Prelude.{◌≡◌, ◌≢◌, ◌↔◌, true, IsTrue, if◌then◌else◌};
 ghost use Rattle.asl_mode_lanes.specs.Mode.{code_of};
 ghost use Rattle.asl_lock_forest.specs.Holding.{held, Covers};
-ghost use Rattle.asl_c_forest.specs.Asks.{node_of, effect_of};
+ghost use Rattle.asl_lock_queue.specs.Asks.{node_of, effect_of};
 ghost use Rattle.asl_c_forest.specs.Status.{mode_fault, covers_fault};
 
-use crate::c_request::{Ask, node};
 use crate::fits;
 use crate::queue_handle::QueueHandle;
 use crate::reader_exports::effect;
 use asl_code::Cell;
-use asl_lock_queue::Queue;
+use asl_lock_queue::{Ask, Queue, node};
 use std::alloc::Global;
 
 /// The code of the mode in which the thread holds the node.

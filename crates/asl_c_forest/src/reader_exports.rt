@@ -2,14 +2,14 @@
 ghost use Rattle.std.specs.Prelude.{◌≡◌, ◌≢◌, ◌↔◌, true, IsTrue, if◌then◌else◌};
 ghost use Rattle.asl_mode_lanes.specs.Mode.{code_of};
 ghost use Rattle.asl_lock_forest.specs.Holding.{held, Covers};
-ghost use Rattle.asl_c_forest.specs.Asks.{node_of, effect_of};
+ghost use Rattle.asl_lock_queue.specs.Asks.{node_of, effect_of};
 ghost use Rattle.asl_c_forest.specs.Status.{mode_fault, covers_fault};
 
-use crate::c_request::{Ask, node};
 use crate::fits;
 use crate::forest_handle::Handle;
 use asl_code::{Cell, Effect};
 use asl_lock_forest::Forest;
+use asl_lock_queue::{Ask, node};
 use std::alloc::Global;
 
 /// The code of the mode in which the thread holds the node.

@@ -5,13 +5,12 @@ ghost use Rattle.asl_lock_forest.specs.declared.node.Node.TheVariants.{Root, Cla
 ghost use Rattle.asl_lock_forest.specs.Node.{IsThere, parent_of, parent_mode};
 ghost use Rattle.asl_lock_forest.specs.Holding.{asked, HoldsNothing};
 ghost use Rattle.asl_lock_forest.specs.Request.{names, names_once, asks_modes, asks_parents, asks_parent_of};
-ghost use Rattle.asl_c_forest.specs.Asks.{ask_of};
+ghost use Rattle.asl_lock_queue.specs.Asks.{is_kind, has_kinds, ask_of};
 ghost use Rattle.asl_lock_queue.specs.Order.{is_after, is_rising};
-ghost use Rattle.asl_c_forest.specs.Status.{is_kind, is_there, has_kinds, has_classes, holds_nothing};
+ghost use Rattle.asl_c_forest.specs.Status.{is_there, has_classes, holds_nothing};
 
-use crate::c_request::{Ask, mode, node};
 use asl_lock_forest::{Forest, Node};
-use asl_lock_queue::is_below;
+use asl_lock_queue::{Ask, is_below, mode, node};
 use asl_mode_lanes::Mode;
 
 /// Whether a kind of node has this number.
@@ -89,7 +88,7 @@ fn names(asks: &[Ask], node: Node) -> bool
     ensures { result ≡ names (map ask_of asks.now) node }
 {
     for ask in asks {
-        if crate::c_request::node(*ask).is_same(node) {
+        if asl_lock_queue::node(*ask).is_same(node) {
             return true;
         }
     }
@@ -146,7 +145,7 @@ fn asked(asks: &[Ask], node: Node) -> Mode
     ensures { result ≡ asked (map ask_of asks.now) node }
 {
     for ask in asks {
-        if crate::c_request::node(*ask).is_same(node) {
+        if asl_lock_queue::node(*ask).is_same(node) {
             return mode(ask.mode);
         }
     }

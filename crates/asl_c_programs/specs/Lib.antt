@@ -4,5 +4,6 @@ pub mod Tables
 pub mod Locks
 pub mod Nodes
 pub mod Status
+pub mod Requests
 -- Machinery: what a handle owns.
 pub mod Owned

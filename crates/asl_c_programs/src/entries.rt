@@ -83,3 +83,15 @@ pub struct LockEntry {
     /// The operations: 256 follows the address in the cell, a number below goes so many cells on.
     pub path: [u16; 8],
 }
+
+/// The request of a list, or what must be told to know it.
+#[derive(Clone, Copy, Drop)]
+#[repr(C)]
+pub struct RequestEntry {
+    /// How many nodes it asks for.
+    pub count: usize,
+    /// Of a cell that must be told the place of its object among those that are shown.
+    pub object: u16,
+    /// Its place in the object.
+    pub offset: u8,
+}

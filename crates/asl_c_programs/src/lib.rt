@@ -6,6 +6,7 @@ mod entries;
 mod expressions;
 mod laws;
 mod list_entries;
+mod list_requests;
 mod names;
 mod opened;
 mod opening;
@@ -16,6 +17,6 @@ mod put;
 mod status;
 mod tables;
 
-pub use entries::{Counts, FunctionEntry, ListEntry, LockEntry, SectionEntry};
+pub use entries::{Counts, FunctionEntry, ListEntry, LockEntry, RequestEntry, SectionEntry};
 pub use laws::{lists_are_of_the_sections_of_their_numbers, unnamed_nodes_are_asked_for_intention};
 pub use program_handle::Handle;

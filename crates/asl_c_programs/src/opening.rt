@@ -1,16 +1,15 @@
 //! From bytes or a source to a program on the heap.
-ghost use Rattle.std.specs.Prelude.{◌≡◌, ◌≢◌, ◌≤◌, ◌↔◌, None, IsTrue, IfOk, IfErr};
+ghost use Rattle.std.specs.Prelude.{◌≡◌, ◌≢◌, ◌≤◌, None, IfOk, IfErr};
 ghost use Rattle.asl_compile.specs.Compiled.{Compiles};
-ghost use Rattle.asl_c_programs.specs.Opening.{AreFacts, BeginsAsImage, IsCompiled, IsOpened, IsProgram, Knows, WhyNotCompiled, WhyNotOpened, WhyNotProgram, WhyNotSource};
+ghost use Rattle.asl_c_programs.specs.Opening.{AreFacts, IsCompiled, IsOpened, Knows, WhyNotCompiled, WhyNotOpened, WhyNotSource};
 
 use crate::opened::{Opened, SourceFacts};
-use crate::status::{BAD_LENGTH, NO_MEMORY, asm_status, compile_status, load_status};
-use asl_assembler::assemble;
+use crate::status::{BAD_LENGTH, NO_MEMORY, compile_status};
 use asl_code::Program;
 use asl_compile::compile;
-use asl_loader::load;
 use asl_lower::lower;
 use asl_map::map_of;
+use asl_opening::program_of;
 use asl_points_to::classes;
 use asl_syntax::parse;
 use std::alloc::{AllocError, Global};
@@ -63,31 +62,6 @@ fn keep(alloc: Global, program: Program, facts: Option<SourceFacts>) -> Result<B
         Ok(kept) => Ok(kept),
         Err(_) => Err(NO_MEMORY),
     }
-}
-
-/// The program of the bytes, an image where they begin as one, else assembly text; or why there is none.
-fn program_of(alloc: Global, bytes: &[u8]) -> Result<Program, u32>
-    ensures program { IfOk result (λ program. IsProgram bytes.now program) }
-    ensures refused { IfErr result (WhyNotProgram bytes.now) }
-{
-    if begins_as_image(bytes) {
-        match load(alloc, bytes) {
-            Ok(program) => Ok(program),
-            Err(fault) => Err(load_status(fault)),
-        }
-    } else {
-        match assemble(alloc, bytes) {
-            Ok(program) => Ok(program),
-            Err(fault) => Err(asm_status(fault)),
-        }
-    }
-}
-
-/// Whether the bytes begin with the four letters of an image.
-fn begins_as_image(bytes: &[u8]) -> bool
-    ensures { IsTrue result ↔ BeginsAsImage bytes.now }
-{
-    bytes.starts_with(b"ASLM")
 }
 
 /// The program of the source; or why there is none.

@@ -3,3 +3,4 @@
 mod names;
 mod openings;
 mod readers;
+mod requests;

@@ -2,20 +2,15 @@
 ghost use Rattle.std.specs.Prelude.{◌≡◌, ◌≢◌, ◌⊎◌};
 ghost use Rattle.asl_c_programs.specs.Opening.{IsWantOfMemory};
 
-use asl_assembler::AsmFault;
 use asl_compile::CompileFault;
 use asl_emitter::InferFault;
-use asl_loader::LoadFault;
+pub use asl_opening::NO_MEMORY;
 use asl_syntax::SyntaxFault;
 
 /// Done.
 pub const DONE: u32 = 0;
-/// An allocation failed.
-pub const NO_MEMORY: u32 = 2;
 /// The handle has no program, or for what opens one it has one.
 pub const BAD_HANDLE: u32 = 3;
-/// The bytes are no program.
-pub const NO_PROGRAM: u32 = 12;
 /// The source is refused.
 pub const NO_SOURCE: u32 = 22;
 /// The paths are asked to be longer than 8 operations.
@@ -24,26 +19,10 @@ pub const BAD_LENGTH: u32 = 23;
 pub const NO_SUCH_NUMBER: u32 = 24;
 /// The program was not opened from a source.
 pub const NO_NAMES: u32 = 25;
-
-/// That of the refusal of an image.
-pub fn load_status(fault: LoadFault) -> u32
-    ensures { ((result ≡ 2) × (fault ≡ LoadFault.OutOfMemory)) ⊎ ((result ≡ 12) × (fault ≢ LoadFault.OutOfMemory)) }
-{
-    match fault {
-        LoadFault::OutOfMemory => NO_MEMORY,
-        _ => NO_PROGRAM,
-    }
-}
-
-/// That of the refusal of an assembly text.
-pub fn asm_status(fault: AsmFault) -> u32
-    ensures { ((result ≡ 2) × (fault ≡ AsmFault.OutOfMemory)) ⊎ ((result ≡ 12) × (fault ≢ AsmFault.OutOfMemory)) }
-{
-    match fault {
-        AsmFault::OutOfMemory => NO_MEMORY,
-        _ => NO_PROGRAM,
-    }
-}
+/// A cell must be told.
+pub const NEEDS_CELL: u32 = 26;
+/// There is room for less than three words for each lock.
+pub const NO_ROOM: u32 = 27;
 
 /// That of the refusal of a source.
 pub fn compile_status(fault: &CompileFault) -> u32

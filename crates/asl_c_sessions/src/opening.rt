@@ -1,14 +1,13 @@
 //! From the bytes of a program to a session on the heap.
-ghost use Rattle.std.specs.Prelude.{◌≡◌, ◌↔◌, [], IsTrue, IfOk, IfErr, OnOk};
+ghost use Rattle.std.specs.Prelude.{◌≡◌, [], IfOk, IfErr, OnOk};
 ghost use Rattle.asl_machine.specs.Run.{IsThreadCount};
-ghost use Rattle.asl_c_sessions.specs.Opening.{BeginsAsImage, IsOpened, IsProgram, WhyNot, WhyNotProgram, WhyNotStarted};
+ghost use Rattle.asl_c_sessions.specs.Opening.{IsOpened, WhyNot, WhyNotStarted};
 
 use crate::session::Session;
-use crate::status::{BAD_COUNT, NO_MEMORY, asm_status, load_status};
-use asl_assembler::assemble;
+use crate::status::{BAD_COUNT, NO_MEMORY};
 use asl_code::Program;
 use asl_debugger::DebugFault;
-use asl_loader::load;
+use asl_opening::program_of;
 use std::alloc::Global;
 
 /// The session of so many threads of the program of the bytes, on the heap; or the status that says why there is none.
@@ -40,29 +39,4 @@ fn start(alloc: Global, program: Program, threads: u32) -> Result<Box<Session>, 
         Ok(kept) => Ok(kept),
         Err(_) => Err(NO_MEMORY),
     }
-}
-
-/// The program of the bytes, an image where they begin as one, else assembly text; or why there is none.
-fn program_of(alloc: Global, bytes: &[u8]) -> Result<Program, u32>
-    ensures program { IfOk result (λ program. IsProgram bytes.now program) }
-    ensures refused { IfErr result (WhyNotProgram bytes.now) }
-{
-    if begins_as_image(bytes) {
-        match load(alloc, bytes) {
-            Ok(program) => Ok(program),
-            Err(fault) => Err(load_status(fault)),
-        }
-    } else {
-        match assemble(alloc, bytes) {
-            Ok(program) => Ok(program),
-            Err(fault) => Err(asm_status(fault)),
-        }
-    }
-}
-
-/// Whether the bytes begin with the four letters of an image.
-fn begins_as_image(bytes: &[u8]) -> bool
-    ensures { IsTrue result ↔ BeginsAsImage bytes.now }
-{
-    bytes.starts_with(b"ASLM")
 }

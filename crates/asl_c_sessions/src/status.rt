@@ -1,50 +1,25 @@
 //! The numbers that C gets for answers.
-ghost use Rattle.std.specs.Prelude.{◌≡◌, ◌≢◌, ◌⊎◌};
+ghost use Rattle.std.specs.Prelude.{◌≡◌};
 ghost use Rattle.asl_c_sessions.specs.Status.{move_status, step_status};
 
-use asl_assembler::AsmFault;
 use asl_debugger::{DebugFault, StepFault};
-use asl_loader::LoadFault;
 use asl_machine::Reply;
+pub use asl_opening::NO_MEMORY;
 
 /// Done.
 pub const DONE: u32 = 0;
-/// An allocation failed.
-pub const NO_MEMORY: u32 = 2;
 /// The handle has no session, or for `asl_session_open` has one.
 pub const BAD_HANDLE: u32 = 3;
 /// There is no such thread.
 pub const BAD_THREAD: u32 = 4;
 /// The program cannot start so many threads.
 pub const BAD_COUNT: u32 = 11;
-/// The bytes are no program.
-pub const NO_PROGRAM: u32 = 12;
 /// The journal has no such position.
 pub const NO_SUCH_STEP: u32 = 13;
 /// Events follow the position.
 pub const NOT_AT_END: u32 = 14;
 /// The journal has 16,777,216 events.
 pub const JOURNAL_FULL: u32 = 15;
-
-/// That of the refusal of an image.
-pub fn load_status(fault: LoadFault) -> u32
-    ensures { ((result ≡ 2) × (fault ≡ LoadFault.OutOfMemory)) ⊎ ((result ≡ 12) × (fault ≢ LoadFault.OutOfMemory)) }
-{
-    match fault {
-        LoadFault::OutOfMemory => NO_MEMORY,
-        _ => NO_PROGRAM,
-    }
-}
-
-/// That of the refusal of an assembly text.
-pub fn asm_status(fault: AsmFault) -> u32
-    ensures { ((result ≡ 2) × (fault ≡ AsmFault.OutOfMemory)) ⊎ ((result ≡ 12) × (fault ≢ AsmFault.OutOfMemory)) }
-{
-    match fault {
-        AsmFault::OutOfMemory => NO_MEMORY,
-        _ => NO_PROGRAM,
-    }
-}
 
 /// That of a step.
 pub fn step_status(answer: Result<Reply, StepFault>) -> u32

@@ -1,5 +1,6 @@
 -- Machinery of the proofs, not of the promise: what the threads hold, by a list of each thread's own nodes and
--- modes (docs/LOCKS.md, "Lawful holdings").
+-- modes (docs/LOCKS.md, "Lawful holdings"). Sound cites it, and Lines and Serving of asl_lock_queue; its cases stand in
+-- tests/cases/asl_lock_forest.
 use Rattle.std.specs.Prelude.{ℕ, ◌+◌, List, [], ◌∷◌}
 use Rattle.asl_lock_forest.specs.Holding.{Holding, no_holding, Request, grant}
 

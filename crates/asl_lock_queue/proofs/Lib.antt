@@ -1,5 +1,5 @@
-mod OrderLaws
-mod RisingLaws
+pub mod OrderLaws
+pub mod RisingLaws
 mod TogetherLaws
 mod ParentLaws
 mod ListFacts

@@ -1,4 +1,5 @@
 pub mod Order
+pub mod Asks
 pub mod Waiting
 pub mod QueueState
 pub mod Served

@@ -1,5 +1,5 @@
 use Rattle.std.proofs.Common.{◌≡◌, drop}
-use Rattle.asl_c_forest.specs.Status.{has_kinds}
+use Rattle.asl_lock_queue.specs.Asks.{has_kinds}
 use Rattle.asl_c_forest.proofs.request_fits.has_kinds.Given as goal
 
 abbrev pub invariant-loop-ask : goal.invariant-loop-ask

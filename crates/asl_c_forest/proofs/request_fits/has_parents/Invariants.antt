@@ -5,7 +5,7 @@ use Rattle.std.specs.List.{list_all}
 use Rattle.asl_lock_forest.specs.Node.{parent_of}
 use Rattle.asl_lock_forest.specs.Holding.{asked}
 use Rattle.asl_lock_forest.specs.Request.{asks_parents, asks_parent_of}
-use Rattle.asl_c_forest.specs.Asks.{ask_of}
+use Rattle.asl_lock_queue.specs.Asks.{ask_of}
 use Rattle.asl_c_forest.proofs.request_fits.has_parents.Given as goal
 
 abbrev pub invariant-loop-ask : goal.invariant-loop-ask

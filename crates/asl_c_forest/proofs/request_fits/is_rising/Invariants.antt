@@ -1,5 +1,5 @@
 use Rattle.std.proofs.Common.{◌≡◌, drop, map}
-use Rattle.asl_c_forest.specs.Asks.{ask_of}
+use Rattle.asl_lock_queue.specs.Asks.{ask_of}
 use Rattle.asl_lock_queue.specs.Order.{rises_after, is_rising}
 use Rattle.asl_c_forest.proofs.request_fits.is_rising.Given as goal
 
