@@ -11,12 +11,14 @@
     with asl.Session(program, threads=2) as session:
         session.step(0)
         print(session.view())
+    with asl.Program.compile(source) as data:    # its tables by number, and what a list asks for over registers and objects that are shown
+        print(data.request(0, registers, objects))
 
 What is refused raises Refused; its `reason` is the name that docs/CLI.md has for it, such as `Twice(x)`.
 """
 from ._commands import (
+    Compiled,
     Lock,
-    Program,
     Section,
     check,
     compile,
@@ -24,14 +26,37 @@ from ._commands import (
     explain,
     map_lines,
 )
-from ._errors import AslError, LibraryError, Refused, SessionError, SourceError
+from ._errors import (
+    AslError,
+    LibraryError,
+    NeedsCell,
+    ProgramError,
+    Refused,
+    SessionError,
+    SourceError,
+    StatusError,
+)
 from ._library import call, library_path
 from ._lists import ClassEntry, Document, FunctionEntry, ListedLock, ListedSection, Need, Notice, Place, lists
+from ._programs import (
+    Counts,
+    Program,
+    ProgramFunction,
+    ProgramGlobal,
+    ProgramList,
+    ProgramLock,
+    ProgramSection,
+)
+from ._requests import Address, Ask, Object
 from ._session import Session
 
 __all__ = [
+    "Address",
+    "Ask",
     "AslError",
     "ClassEntry",
+    "Compiled",
+    "Counts",
     "Document",
     "FunctionEntry",
     "LibraryError",
@@ -39,14 +64,23 @@ __all__ = [
     "ListedSection",
     "Lock",
     "Need",
+    "NeedsCell",
     "Notice",
+    "Object",
     "Place",
     "Program",
+    "ProgramError",
+    "ProgramFunction",
+    "ProgramGlobal",
+    "ProgramList",
+    "ProgramLock",
+    "ProgramSection",
     "Refused",
     "Section",
     "Session",
     "SessionError",
     "SourceError",
+    "StatusError",
     "call",
     "check",
     "compile",

@@ -50,13 +50,18 @@ class Section:
 
 
 @dataclasses.dataclass(frozen=True)
-class Program:
+class Compiled:
     """A compiled source: its image, its assembly text, and its sections in the order of the text, with their lists."""
 
     image: bytes
     text: str
     sections: Tuple[Section, ...]
     k: int
+
+
+def program_bytes(program: Union[Compiled, Text]) -> bytes:
+    """An image or an assembly text as the library reads it; of a compiled source its image."""
+    return program.image if isinstance(program, Compiled) else bytes_of(program)
 
 
 def _reason(errors: str) -> str:
@@ -125,18 +130,18 @@ def _sections(source: bytes, lines: List[List[str]], text: str) -> Tuple[Section
     return tuple(sections)
 
 
-def compile(source: Text, k: int = 3) -> Program:
+def compile(source: Text, k: int = 3) -> Compiled:
     """The program that is inferred for a source, with paths of at most k operations, 0 to 8. Raises SourceError."""
     given = bytes_of(source)
     text = answer(["compile", "--text", "--k", str(k)], given, k).decode()
     image = answer(["compile", "--k", str(k)], given, k)
-    return Program(image, text, _sections(given, map_lines(given), text), k)
+    return Compiled(image, text, _sections(given, map_lines(given), text), k)
 
 
-def check(source: Text, program: Union[Program, Text], k: int = 3) -> int:
+def check(source: Text, program: Union[Compiled, Text], k: int = 3) -> int:
     """How many sections were checked, where the lists of the program are enough for the source; else Refused, with the lock that is
     lacking. The program is a compiled one, an image or an assembly text, of which only the lists may be other ones."""
-    given = program.text if isinstance(program, Program) else program
+    given = program.text if isinstance(program, Compiled) else program
     told = answer(["check", "--k", str(k)], bytes_of(source) + b"\0" + bytes_of(given), k, None).decode()
     return int(told.split()[1])
 

@@ -2,9 +2,9 @@
 from __future__ import annotations
 
 import re
-from typing import Optional
+from typing import Optional, Tuple
 
-_SESSION_NAMES = {
+_STATUS_NAMES = {
     2: "OutOfMemory",
     3: "BadHandle",
     4: "BadThread",
@@ -14,7 +14,14 @@ _SESSION_NAMES = {
     14: "NotAtEnd",
     15: "JournalFull",
     16: "NullPointer",
+    22: "NoSource",
+    23: "BadLength",
+    24: "NoSuchNumber",
+    25: "NoNames",
+    26: "NeedsCell",
+    27: "NoRoom",
 }
+NEEDS_CELL = 26
 
 
 class AslError(Exception):
@@ -26,7 +33,8 @@ class LibraryError(AslError):
 
 
 class Refused(AslError):
-    """An input is refused. `reason` is its whole name, as `Uncovered(0, expr r1 write)`, and `name` the part before the bracket."""
+    """An input is refused. `reason` is what the command says behind `asl: `, as `Uncovered(0, expr r1 write)`, and `name` the part before the
+    bracket."""
 
     def __init__(self, reason: str):
         super().__init__(reason)
@@ -45,13 +53,29 @@ class SourceError(Refused):
         self.text = text
 
 
-class SessionError(AslError):
-    """A call of a session is refused. `name` is that of its status (include/asl.h), which `status` is."""
+class StatusError(AslError):
+    """A call of a session or of a program is refused. `name` is that of its status (include/asl.h), which `status` is."""
 
     def __init__(self, status: int):
         self.status = status
-        self.name = _SESSION_NAMES.get(status, f"Status{status}")
+        self.name = _STATUS_NAMES.get(status, f"Status{status}")
         super().__init__(self.name)
+
+
+class SessionError(StatusError):
+    """A call of a session is refused."""
+
+
+class ProgramError(StatusError):
+    """A call of a program is refused. Where its bytes or its source are, the `__cause__` says why, with the place where it has one."""
+
+
+class NeedsCell(ProgramError):
+    """The request of a list is not known without a cell that was not told: `cell` is its object, by its place, and its offset."""
+
+    def __init__(self, cell: Tuple[int, int]):
+        super().__init__(NEEDS_CELL)
+        self.cell = cell
 
 
 _DIAGNOSIS = re.compile(r"(\d+):(\d+): (\w+)")

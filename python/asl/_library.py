@@ -4,7 +4,7 @@ from __future__ import annotations
 import ctypes
 import os
 import pathlib
-from typing import Iterator, Sequence, Tuple, Union
+from typing import Any, Iterator, List, Sequence, Tuple, Union
 
 from ._errors import LibraryError
 
@@ -44,6 +44,16 @@ def _loaded() -> Tuple[ctypes.CDLL, str]:
 
 
 LIBRARY, _PATH = _loaded()
+
+
+def function_of(name: str, arguments: List[Any]) -> Any:
+    """A function of the library that answers a status."""
+    try:
+        function = getattr(LIBRARY, name)
+    except AttributeError as error:
+        raise LibraryError(f"{_PATH} is an older library: {error}") from None
+    function.restype, function.argtypes = ctypes.c_uint32, arguments
+    return function
 
 
 def library_path() -> str:
