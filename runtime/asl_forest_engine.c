@@ -3,15 +3,16 @@
  * A list is evaluated under the guard, and what it asks for is granted or refused before the guard is given up. Cells need not be atomic for
  * that: a cell that another thread covers for writing is not read, but refused at once (docs/RACES.md, "Tries").
  *
- * Who is refused waits in a queue, as docs/LOCKS.md, "The queue", says: nobody goes first who comes later and asks what clashes. Who gives back
- * looks at those who wait, first come first, and grants for each what his list asks for now, where nobody is in his way any more. So only those
- * are woken who go on. They look a moment before they sleep. A thread has a number in the forest only while it holds something. */
+ * Who is refused waits in a queue, as docs/LOCKS.md, "The queue", says: nobody goes first who comes later and asks what clashes. Each who waits
+ * stands behind one who is in his way, and holds or waits before him. Who gives back looks at those who stand behind him: each finds another who is
+ * in his way, or what his list asks for now is granted. So only those are woken who go on, and the others cost nothing. They look a moment before
+ * they sleep. A thread has a number in the forest only while it holds something. */
 #define _POSIX_C_SOURCE 200809L
 #include "inside.h"
 #include <stdio.h>
 #include <stdlib.h>
 
-enum { MOST_AT_ONCE = 128, MOST_WOKEN = 16, GUARD_SPIN_NS = 10000 };
+enum { MOST_AT_ONCE = 128, MOST_WOKEN = 16, GUARD_SPIN_NS = 10000, TALLIES = 1 << 10 };
 
 enum { WAITS, GOES_ON, SLEEPS }; /* what `state` is */
 
@@ -25,6 +26,10 @@ typedef struct forest_thread {
   uint32_t number;  /* while it holds */
   uint32_t place;   /* among the holders */
   struct forest_thread *next, *last; /* in the queue, while it waits */
+  uint64_t turn;    /* while it waits: who came before has a lesser one; else 0 */
+  struct forest_thread *behind; /* while it waits: one who is in its way; NULL: there was no number for it */
+  struct forest_thread *next_behind, *last_behind; /* among those who stand behind the same one */
+  struct forest_thread *first_follower, *last_follower; /* those who stand behind this one */
   mine *self;
   const list *of;   /* while it waits */
   const aslr_value *registers;
@@ -34,6 +39,11 @@ typedef struct forest_thread {
   pthread_cond_t wake;
 } forest_thread;
 
+/* how many of those who wait ask at some nodes for a mode with the 1, the 2, the 4 and the 8 */
+typedef struct {
+  uint32_t with[4];
+} tally;
+
 typedef struct {
   asl_forest forest;
   _Alignas(64) pthread_mutex_t guard; /* for all that follows, and the forest */
@@ -42,6 +52,8 @@ typedef struct {
   forest_thread *holders[MOST_AT_ONCE];
   uint8_t free[MOST_AT_ONCE];         /* numbers */
   forest_thread *first, *last;        /* the queue */
+  uint64_t turns;                     /* how often somebody began to wait */
+  tally tallies[TALLIES];             /* each of the nodes of a hash */
   bool has_mutex;
 } forest_engine;
 
@@ -155,11 +167,58 @@ static void evaluate(forest_thread *my) {
 
 /* ---- under the guard: the queue, and grants */
 
-/* whether one who waits, and came before, asks for what clashes */
-static bool must_queue(const forest_engine *engine, const forest_thread *my, bool in_queue) {
-  for (const forest_thread *w = engine->first; w && !(in_queue && w == my); w = w->next)
-    if (clash(&w->asked, &my->asked)) return true;
+static tally *tally_of(forest_engine *engine, want one) { return &engine->tallies[node_of(one) * UINT64_C(0x9e3779b97f4a7c15) >> 54]; }
+
+static void count_in(forest_engine *engine, const request *all) {
+  for (size_t i = 0; i < all->count; i++)
+    for (unsigned bit = 0; bit < 4; bit++) tally_of(engine, all->wants[i])->with[bit] += mode_of(all->wants[i]) >> bit & 1;
+}
+
+static void count_out(forest_engine *engine, const request *all) {
+  for (size_t i = 0; i < all->count; i++)
+    for (unsigned bit = 0; bit < 4; bit++) tally_of(engine, all->wants[i])->with[bit] -= mode_of(all->wants[i]) >> bit & 1;
+}
+
+/* whether somebody may wait who asks for what clashes: else nobody does */
+static bool may_clash(forest_engine *engine, const request *all) {
+  for (size_t i = 0; i < all->count && engine->first; i++) {
+    const uint32_t *with = tally_of(engine, all->wants[i])->with;
+    uint8_t joined = (uint8_t)((with[0] > 0) | (with[1] > 0) << 1 | (with[2] > 0) << 2 | (with[3] > 0) << 3);
+    if (modes_clash(mode_of(all->wants[i]), joined)) return true;
+  }
   return false;
+}
+
+/* One who waits, and came before, and asks for what clashes. It is looked for from both ends: writers stand first where others read, and those who
+ * came last where all write. */
+static forest_thread *waits_before(const forest_engine *engine, const forest_thread *my) {
+  forest_thread *w = engine->first, *v = my->turn ? my->last : engine->last;
+  for (; v && w->turn <= v->turn; w = w->next, v = v->last) {
+    if (clash(&v->asked, &my->asked)) return v;
+    if (clash(&w->asked, &my->asked)) return w;
+  }
+  return NULL;
+}
+
+/* one who holds what clashes */
+static forest_thread *holds_before(const forest_engine *engine, const forest_thread *my) {
+  for (uint32_t h = 0; h < engine->holder_count; h++)
+    if (clash(&engine->holders[h]->asked, &my->asked)) return engine->holders[h];
+  return NULL;
+}
+
+/* No more behind the one it stood behind; `other` may be NULL. */
+static void stand_behind(forest_thread *my, forest_thread *other) {
+  if (my->behind) {
+    *(my->last_behind ? &my->last_behind->next_behind : &my->behind->first_follower) = my->next_behind;
+    *(my->next_behind ? &my->next_behind->last_behind : &my->behind->last_follower) = my->last_behind;
+  }
+  my->behind = other;
+  if (!other) return;
+  my->next_behind = NULL;
+  my->last_behind = other->last_follower;
+  *(other->last_follower ? &other->last_follower->next_behind : &other->first_follower) = my;
+  other->last_follower = my;
 }
 
 static void begin_to_wait(forest_engine *engine, forest_thread *my) {
@@ -167,19 +226,25 @@ static void begin_to_wait(forest_engine *engine, forest_thread *my) {
   my->last = engine->last;
   *(engine->last ? &engine->last->next : &engine->first) = my;
   engine->last = my;
+  my->turn = ++engine->turns;
+  count_in(engine, &my->asked);
   engine->waiter_count++;
 }
 
 static void end_to_wait(forest_engine *engine, forest_thread *my) {
   *(my->last ? &my->last->next : &engine->first) = my->next;
   *(my->next ? &my->next->last : &engine->last) = my->last;
+  my->turn = 0;
+  count_out(engine, &my->asked);
+  stand_behind(my, NULL);
   engine->waiter_count--;
 }
 
-/* Grants what is asked, in the forest too, where nobody is in the way. Returns ASLR_OK, ASL_IN_THE_WAY or ASLR_NO_MEMORY. */
-static uint32_t grant(forest_engine *engine, forest_thread *my, bool in_queue) {
+/* Grants what is asked, in the forest too, where nobody is in the way; `before`: one who waits and is. Returns ASLR_OK, ASL_IN_THE_WAY or
+ * ASLR_NO_MEMORY. */
+static uint32_t grant(forest_engine *engine, forest_thread *my, const forest_thread *before) {
   if (my->asked.count == 0) return ASLR_OK;
-  if (my->held_back || engine->free_count == 0 || must_queue(engine, my, in_queue)) return ASL_IN_THE_WAY;
+  if (my->held_back || engine->free_count == 0 || before) return ASL_IN_THE_WAY;
   uint32_t number = engine->free[engine->free_count - 1];
   for (size_t i = 0; i < my->asked.count; i++) my->asks[i] = as_ask(my->asked.wants[i]);
   uint32_t status = asl_forest_try_acquire(&engine->forest, number, my->asks, my->asked.count);
@@ -203,10 +268,11 @@ static void give_back(forest_engine *engine, forest_thread *my) {
   my->holds = false;
 }
 
-/* One who waits is looked at again. Returns whether he goes on. `other` becomes true where he is no more in the way of those behind him for what
- * he asked before. */
+/* Who waits is looked at again, where nobody waits before who asks for what clashes with what he asked. Returns whether he goes on. `other` becomes
+ * true where he is no more in the way of those behind him for what he asked before. */
 static bool look_again(forest_engine *engine, forest_thread *my, bool *other) {
   request waited = my->asked;
+  forest_thread *before = NULL;
 #ifdef ASLR_TEST_ONE_EVALUATION /* for a test, which must then fail */
   if (my->held_back) {
 #else
@@ -216,32 +282,52 @@ static bool look_again(forest_engine *engine, forest_thread *my, bool *other) {
     my->before = waited;
     evaluate(my);
     my->self->thread.counts.again++;
+    count_out(engine, &waited);
+    count_in(engine, &my->asked);
+    before = waits_before(engine, my);
   }
-  uint32_t status = grant(engine, my, true);
+  uint32_t status = grant(engine, my, before);
   if (status == ASLR_NO_MEMORY || !same_request(&waited, &my->asked)) *other = true;
-  if (status == ASL_IN_THE_WAY) return false;
+  if (status == ASL_IN_THE_WAY) {
+    stand_behind(my, before ? before : holds_before(engine, my));
+    return false;
+  }
   end_to_wait(engine, my);
   my->status = status;
   return true;
 }
 
-/* Whether one who waits need not be looked at: what he asked for clashes with what one before him waits for, or has just been granted; `go` are those
- * who have been, a list by `next`. When that one gives back, or asks for something else, he is looked at again. */
-static bool stays(const forest_engine *engine, const forest_thread *my, const forest_thread *go) {
+/* Who is in the way of one who waits, for what he asked: the one he stands behind, if that one still is; one of those who have just gone on, a list
+ * by `next`; or one who waits before. NULL: he must be looked at. */
+static forest_thread *still_before(const forest_engine *engine, const forest_thread *my, forest_thread *go) {
+  forest_thread *other = my->behind;
+  if (other && (other->holds || (other->turn && other->turn < my->turn)) && clash(&other->asked, &my->asked)) return other;
   for (; go; go = go->next)
-    if (go->holds && clash(&go->asked, &my->asked)) return true;
-  return must_queue(engine, my, true);
+    if (go->holds && clash(&go->asked, &my->asked)) return go;
+  return waits_before(engine, my);
 }
 
-/* Grants all who wait and now can go on, after `gone` was given back, and returns them as a list by `next`. `all`: what else has changed is not
- * known. */
-static forest_thread *find_all(forest_engine *engine, const request *gone, bool all) {
+static void look_at(forest_engine *engine, forest_thread *my, forest_thread **go, bool *other) {
+  forest_thread *before = still_before(engine, my, *go);
+  if (before) {
+    if (before != my->behind) stand_behind(my, before);
+  } else if (look_again(engine, my, other)) {
+    my->next = *go;
+    *go = my;
+  }
+}
+
+/* Grants all who wait and now can go on, after `gone` has given back, and returns them as a list by `next`. Who does not stand behind `gone` has
+ * another in his way; `all`: or nobody, since there was no number. Where what somebody asks for has changed, all are looked at too. */
+static forest_thread *find_all(forest_engine *engine, const forest_thread *gone, bool all) {
   forest_thread *go = NULL;
-  for (forest_thread *next, *w = engine->first; w && engine->free_count > 0; w = next) {
+  for (forest_thread *next, *w = gone->first_follower; w && engine->free_count > 0 && !all; w = next) {
+    next = w->next_behind;
+    look_at(engine, w, &go, &all);
+  }
+  for (forest_thread *next, *w = engine->first; w && engine->free_count > 0 && all; w = next) {
     next = w->next;
-    if ((!all && !clash(gone, &w->asked)) || stays(engine, w, go) || !look_again(engine, w, &all)) continue;
-    w->next = go;
-    go = w;
+    look_at(engine, w, &go, &all);
   }
   return go;
 }
@@ -283,7 +369,7 @@ static void wait_for_turn(forest_thread *my, uint32_t spin_ns) {
   pthread_mutex_lock(&my->mutex);
   if (atomic_compare_exchange_strong_explicit(&my->state, &waits, SLEEPS, memory_order_acq_rel, memory_order_acquire)) {
     my->self->thread.counts.sleeps++;
-    while (!goes_on(my)) pthread_cond_wait(&my->wake, &my->mutex);
+    while (!goes_on(my)) sleep_on(&my->wake, &my->mutex);
   }
   pthread_mutex_unlock(&my->mutex);
 }
@@ -301,7 +387,8 @@ static uint32_t acquire(mine *self, const list *of, const aslr_value *registers)
   }
   take_guard(engine);
   if (of->follows) evaluate(my);
-  uint32_t status = grant(engine, my, false);
+  forest_thread *before = engine->free_count > 0 && may_clash(engine, &my->asked) ? waits_before(engine, my) : NULL;
+  uint32_t status = grant(engine, my, before);
   if (status != ASL_IN_THE_WAY) {
     give_guard(engine);
     return status;
@@ -309,6 +396,7 @@ static uint32_t acquire(mine *self, const list *of, const aslr_value *registers)
   self->thread.counts.refusals++;
   atomic_store_explicit(&my->state, WAITS, memory_order_relaxed);
   begin_to_wait(engine, my);
+  stand_behind(my, before || engine->free_count == 0 ? before : holds_before(engine, my));
   bool crowded = engine->holder_count + engine->waiter_count > self->thread.runtime->processors;
   give_guard(engine);
   wait_for_turn(my, crowded ? 1 : self->thread.runtime->spin_ns);
@@ -323,7 +411,7 @@ static void release(mine *self) {
   take_guard(engine);
   bool had_none = engine->free_count == 0;
   give_back(engine, my);
-  let_all_on(find_all(engine, &my->asked, had_none), &asleep);
+  let_all_on(find_all(engine, my, had_none), &asleep);
   give_guard(engine);
   for (size_t i = 0; i < asleep.count; i++) wake(asleep.threads[i]);
 }

@@ -127,6 +127,7 @@ static int run_all(aslr_thread **threads, pthread_t *ids, uint32_t count) {
   int refusal = pthread_attr_init(&attributes);
   if (refusal) return refusal;
   pthread_attr_setstacksize(&attributes, STACK);
+  start.state = CLOSED;
   uint32_t started = 0;
   while (started < count && !refusal) {
     refusal = pthread_create(&ids[started], &attributes, run, threads[started]);

@@ -1,6 +1,10 @@
 /* Runtimes, threads, objects, and the entry and exit of sections, which ask the engine. */
 #define _POSIX_C_SOURCE 200809L
+#ifdef __linux__
+#define _GNU_SOURCE /* for sched_getaffinity */
+#endif
 #include "inside.h"
+#include <sched.h>
 #include <stdlib.h>
 #include <string.h>
 #include <unistd.h>
@@ -21,6 +25,7 @@ static bool is_there(const aslr_program *program, const aslr_lock *lock) {
   return lock->base == ASLR_REGISTER && lock->at < 256;
 }
 
+/* A list follows cells where a path has `*`: then it is evaluated under the guard, and again by who gives back (asl_forest_engine.c). */
 static bool read_list(const aslr_program *program, const aslr_lock *locks, list *into) {
   *into = (list){locks, 0, false};
   for (const aslr_lock *lock = locks; lock->kind != ASLR_END; lock++) {
@@ -142,7 +147,12 @@ static uint32_t open_parts(aslr_runtime *made, const aslr_program *program, cons
   return status;
 }
 
+/* on which the thread may run that opens the runtime */
 static uint32_t processors(void) {
+#ifdef __linux__
+  cpu_set_t allowed;
+  if (sched_getaffinity(0, sizeof allowed, &allowed) == 0) return (uint32_t)CPU_COUNT(&allowed);
+#endif
   long found = sysconf(_SC_NPROCESSORS_ONLN);
   return found > 0 ? (uint32_t)found : 1;
 }
@@ -194,6 +204,7 @@ aslr_value aslr_global(const aslr_runtime *runtime, uint32_t global) { return ru
 
 /* ---- threads */
 
+/* a thread, and behind it the engine's part; all zero at first: at depth 0, in no section */
 static mine *make_thread(aslr_runtime *runtime) {
   size_t front = (sizeof(mine) + 63) & ~(size_t)63;
   mine *made = aligned_alloc(64, front + ((runtime->engine->thread_size + 63) & ~(size_t)63));
@@ -207,6 +218,18 @@ static mine *make_thread(aslr_runtime *runtime) {
   return NULL;
 }
 
+/* What C reads and writes of a thread, as at first: it may have been another's that was closed. */
+static void begin_anew(aslr_thread *thread) {
+  thread->frames = 1;
+  thread->number = 0;
+  thread->counts = (aslr_counts){0};
+  thread->status = ASLR_OK;
+  thread->ended_by = ASLR_FAULT_TYPE;
+  thread->fault_at = 0;
+  thread->fault_writes = false;
+  thread->before_access = NULL;
+}
+
 uint32_t aslr_thread_open(aslr_runtime *runtime, aslr_thread **thread) {
   enum { MOST_WITH_WORDS = 16383 };
   if (!runtime || !thread) return ASLR_NULL_POINTER;
@@ -218,9 +241,7 @@ uint32_t aslr_thread_open(aslr_runtime *runtime, aslr_thread **thread) {
   if (found) runtime->open++;
   pthread_mutex_unlock(&runtime->mutex);
   if (!found) return too_many ? ASLR_BAD_COUNT : ASLR_NO_MEMORY;
-  found->thread.frames = 1;
-  found->thread.number = 0;
-  found->thread.counts = (aslr_counts){0};
+  begin_anew(&found->thread);
   *thread = &found->thread;
   return ASLR_OK;
 }
@@ -297,7 +318,7 @@ uint32_t aslr_abandon(aslr_thread *thread) {
 }
 
 bool aslr_may_access(aslr_thread *thread, aslr_value at, bool writes) {
-  if (thread->depth == 0) return false;
+  if (thread->depth == 0 || !aslr_is_address(at)) return false;
   return aslr_object_of(at)->made_in == thread->section || thread->runtime->engine->covers(of_thread(thread), at, writes);
 }
 

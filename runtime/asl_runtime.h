@@ -4,7 +4,16 @@
  * C11 and POSIX threads over the library for C (asl.h). Nothing here is proved: the lists, the lock forest and the text of an emitted program
  * are. Two engines keep sections apart: `forest` asks the proved lock forest, `words` has an atomic word for each node in its stead.
  *
- * What C owes: a thread is used by one thread of the system at a time; a program, its lists and its runtime outlive what uses them. */
+ * What C owes:
+ *  - A thread is used by one thread of the system at a time, also while it waits in aslr_section_enter, and no more once it is closed.
+ *  - A program, its lists and its runtime outlive what uses them. While a runtime is closed nobody else uses it.
+ *  - Values are integers, null, and addresses that this runtime has given; so are the registers that a list names.
+ *  - Who ends in a section leaves it first, also by a cleanup handler where it is cancelled: what it holds is held for ever else. No function
+ *    here is a cancellation point but aslr_out and aslr_main, and nobody is cancelled asynchronously.
+ *  - A signal handler calls nothing of this header, and does not jump out of it. A signal that is handled disturbs nothing.
+ *  - After a fork the child uses those runtimes alone that no other thread of the system was using.
+ *  - Who leaves an entry otherwise than by its return goes by aslr_fault or aslr_stop.
+ *  - Who waits in a section, for a section of another runtime or for a lock of C's own, sees to it that nobody waits in a circle. */
 #ifndef ASL_RUNTIME_H
 #define ASL_RUNTIME_H
 
@@ -98,7 +107,7 @@ enum {
   ASLR_OK = ASL_OK,
   ASLR_NO_MEMORY = ASL_NO_MEMORY,
   ASLR_BAD_COUNT = ASL_BAD_COUNT,     /* threads: `at_once` is 1 to 128; a program has at most 65,536 classes and globals */
-  ASLR_BAD_PROGRAM = ASL_NO_PROGRAM,  /* a list names what is not there, or is longer than 256 locks */
+  ASLR_BAD_PROGRAM = ASL_NO_PROGRAM,  /* a list names what is not there, or is longer than 256 locks, or there are more than 65,536 lists */
   ASLR_NULL_POINTER = ASL_NULL_POINTER,
   ASLR_BAD_ENGINE = 32, /* no such engine, or `words` over plain cells */
   ASLR_IN_USE = 33,     /* threads are open, or the thread is in a section */
@@ -134,12 +143,12 @@ typedef enum {
   ASLR_FAULT_DEEP, ASLR_FAULT_NO_SECTION
 } aslr_fault_kind;
 
-/* Of a thread C may read what stands here; the functions below write it. */
+/* Of a thread C may read what stands here; it writes `number`, `failed` and `before_access` alone. */
 typedef struct aslr_thread {
   aslr_runtime *runtime;
   uint32_t depth;          /* of sections */
   uint32_t frames;
-  uint32_t number;         /* of aslr_main's threads: which it is */
+  uint32_t number;         /* that aslr_out prints: aslr_main numbers its threads, from 0 on */
   uint64_t section;        /* names this section among those of all threads; 0: the thread is in none */
   const aslr_value *globals;
   aslr_counts counts;
@@ -157,7 +166,8 @@ uint32_t aslr_open(const aslr_program *program, const aslr_options *options, asl
 /* Frees the runtime and all its objects. Returns 0, 16 or 33. */
 uint32_t aslr_close(aslr_runtime *runtime);
 
-/* Makes a thread: there may be any number. Returns 0, 2, 11 (the engine `words`: 16,383 are open) or 16. */
+/* Makes a thread, in no section and with nothing that C has set: there may be any number. Returns 0, 2, 11 (the engine `words`: 16,383 are
+ * open) or 16. */
 uint32_t aslr_thread_open(aslr_runtime *runtime, aslr_thread **thread);
 
 /* Frees a thread that is in no section; its counts are added to those of the runtime. Returns 0, 16 or 33. */
@@ -179,7 +189,8 @@ uint32_t aslr_object_new(aslr_thread *thread, uint8_t cells, uint16_t klass, asl
 /* The address of the cell of a global that is there. */
 aslr_value aslr_global(const aslr_runtime *runtime, uint32_t global);
 
-/* Whether the thread may read, or write, the cell of an address now: its section covers it, or has made the object. */
+/* Whether the thread may read, or write, the cell of an address now: its section covers it, or has made the object. False of what is no
+ * address. */
 bool aslr_may_access(aslr_thread *thread, aslr_value at, bool writes);
 
 /* The counts of all threads that were closed. */
@@ -204,7 +215,7 @@ void aslr_check(aslr_thread *t, aslr_value at, bool writes);
 #endif
 
 static inline aslr_value aslr_add(aslr_thread *t, aslr_value b, aslr_value c) {
-  if (!aslr_is_int(b | c) || ((b | c) & ASLR_NULL)) aslr_fault(t, ASLR_FAULT_TYPE);
+  if (!aslr_is_int(b | c)) aslr_fault(t, ASLR_FAULT_TYPE);
   return b + c;
 }
 static inline aslr_value aslr_sub(aslr_thread *t, aslr_value b, aslr_value c) {
@@ -264,7 +275,7 @@ extern const aslr_program *const aslr_printed;
 /* `main` of an emitted program. usage: PROGRAM [--engine forest|words] [--counts] [--share-numbers] [THREADS]
  * THREADS, 1 to 10,000, is how many threads run its entry, each with its number, from 0; left out, as many as there are processors. It prints
  * `T out V`, `T done V` and `T fault F`, then `global G V` for each global. Returns 0 where all threads are done, 1 where memory or the start
- * of a thread is refused, with one line on standard error, 2 for other words, 3 where a thread failed. */
+ * of a thread is refused, with one line on standard error, 2 for other words, 3 where a thread failed. One call at a time. */
 int aslr_main(const aslr_program *program, int argc, char **argv);
 
 #endif

@@ -6,8 +6,14 @@
  * more, and if it asks for something else now, all is given back and the thread begins again. If it asks for the same, it will go on doing so,
  * since the cells that its expressions read are locked.
  *
+ * It releases and acquires, and no more: that is enough here (docs/RACES.md, "What it is for"). All that a section holds is taken before its first
+ * access and given back after its last. A word is changed by read-modify-write alone, so who takes it in a mode that clashes synchronizes with all
+ * who gave it back before. So of accesses in conflict one happens before the other; each load sees the last store before it; and sections in an
+ * order that goes with `happens before` do the same one after the other. An evaluation that reads while others store asks for words, and no more.
+ *
  * A word counts the threads that hold a mode with the 1, the 2, the 4 and the 8 (docs/LOCKS.md), and those that wait to write all that is
- * below: once one waits, nobody else comes in. Leaves share words by a hash, which costs waiting. A node at which no two requests can clash has
+ * below: once one waits, nobody else comes in. Who gives back wakes those who can come in now, of writers one. Leaves share words by a hash, which
+ * costs waiting. A node at which no two requests can clash has
  * no word: the root where no list names it, a class that no list names. */
 #define _POSIX_C_SOURCE 200809L
 #include "inside.h"
@@ -20,10 +26,18 @@ typedef struct {
   _Alignas(64) _Atomic uint64_t word;
 } node;
 
-/* where those sleep who wait for one of many words */
+/* a thread that sleeps until a word has none of some bits */
+typedef struct sleeper {
+  struct sleeper *next;
+  uint64_t at, clash;
+  bool sleeps;
+  pthread_cond_t wake;
+} sleeper;
+
+/* where those sleep who wait for one of many words, a list */
 typedef struct {
   _Alignas(64) pthread_mutex_t mutex;
-  pthread_cond_t freed;
+  sleeper *first, **end;
 } bucket;
 
 typedef struct {
@@ -37,6 +51,7 @@ typedef struct {
 typedef struct {
   request held, again;
   bool is_in;
+  sleeper asleep;
 } words_thread;
 
 static inline words_engine *of_runtime(const aslr_runtime *runtime) { return runtime->engine_at; }
@@ -91,17 +106,59 @@ static void evaluate(const aslr_runtime *runtime, const list *of, const aslr_val
 
 /* ---- one word */
 
-/* until the word has none of these bits */
-static void sleep_for(words_engine *engine, uint64_t at, uint64_t clash) {
-  bucket *b = &engine->buckets[at % BUCKETS];
-  _Atomic uint64_t *word = &engine->nodes[at].word;
+/* Behind all others, or before them where it has been woken once. */
+static void lie_down(bucket *b, sleeper *my, bool again) {
+  sleeper **place = again ? &b->first : b->end;
+  my->next = *place;
+  *place = my;
+  if (!my->next) b->end = &my->next;
+  my->sleeps = true;
+}
+
+static void wake(bucket *b, sleeper **place) {
+  sleeper *woken = *place;
+  *place = woken->next;
+  if (!woken->next) b->end = place;
+  woken->sleeps = false;
+  pthread_cond_signal(&woken->wake);
+}
+
+/* Until the word has none of the bits that clash. While somebody sleeps for a word it says so: who gives back then looks who can come in. */
+static void sleep_for(words_engine *engine, sleeper *my) {
+  bucket *b = &engine->buckets[my->at % BUCKETS];
+  _Atomic uint64_t *word = &engine->nodes[my->at].word;
+  bool again = false;
   pthread_mutex_lock(&b->mutex);
   uint64_t w = atomic_load_explicit(word, memory_order_relaxed);
-  while (w & clash) {
+  while (w & my->clash) {
     if (!(w & SLEEPER) && !atomic_compare_exchange_weak_explicit(word, &w, w | SLEEPER, memory_order_relaxed, memory_order_relaxed)) continue;
-    pthread_cond_wait(&b->freed, &b->mutex);
+    lie_down(b, my, again);
+    while (my->sleeps) sleep_on(&my->wake, &b->mutex);
+    again = true;
     w = atomic_load_explicit(word, memory_order_relaxed);
   }
+  pthread_mutex_unlock(&b->mutex);
+}
+
+/* Wakes those for whom the word is free now. Of those who write one: the others would sleep again. */
+static void wake_sleepers(words_engine *engine, uint64_t at) {
+  bucket *b = &engine->buckets[at % BUCKETS];
+  _Atomic uint64_t *word = &engine->nodes[at].word;
+  bool writes = false, some_stay = false;
+  pthread_mutex_lock(&b->mutex);
+  uint64_t w = atomic_load_explicit(word, memory_order_relaxed);
+  for (sleeper **place = &b->first; *place && !(writes && some_stay);) {
+    sleeper *one = *place;
+    bool stays = one->at == at && (writes || (w & one->clash));
+    some_stay = some_stay || stays;
+    if (stays || one->at != at) {
+      place = &one->next;
+    } else {
+      writes = one->clash & ALL_WITH(0);
+      wake(b, place);
+    }
+  }
+  if (!some_stay) atomic_fetch_and_explicit(word, ~SLEEPER, memory_order_relaxed);
   pthread_mutex_unlock(&b->mutex);
 }
 
@@ -115,7 +172,10 @@ static void wait_for(mine *self, uint64_t at, uint64_t clash) {
     if (!(atomic_load_explicit(word, memory_order_relaxed) & clash)) return;
   } while (spins(&s));
   self->thread.counts.sleeps++;
-  sleep_for(engine, at, clash);
+  words_thread *my = self->at;
+  my->asleep.at = at;
+  my->asleep.clash = clash;
+  sleep_for(engine, &my->asleep);
 }
 
 static void take(mine *self, uint64_t at, uint8_t mode) {
@@ -147,12 +207,7 @@ static void give_back(words_engine *engine, const request *held) {
   for (size_t i = held->count; i-- > 0;) {
     uint64_t at = node_of(held->wants[i]);
     _Atomic uint64_t *word = &engine->nodes[at].word;
-    if (!(atomic_fetch_sub_explicit(word, what_is_added(mode_of(held->wants[i])), memory_order_release) & SLEEPER)) continue;
-    bucket *b = &engine->buckets[at % BUCKETS];
-    pthread_mutex_lock(&b->mutex);
-    atomic_fetch_and_explicit(word, ~SLEEPER, memory_order_relaxed);
-    pthread_cond_broadcast(&b->freed);
-    pthread_mutex_unlock(&b->mutex);
+    if (atomic_fetch_sub_explicit(word, what_is_added(mode_of(held->wants[i])), memory_order_release) & SLEEPER) wake_sleepers(engine, at);
   }
 }
 
@@ -213,7 +268,7 @@ static uint32_t thread_open(mine *self) {
   size_t room = self->thread.runtime->longest + 1;
   my->held.wants = calloc(room, sizeof(want));
   my->again.wants = calloc(room, sizeof(want));
-  if (my->held.wants && my->again.wants) return ASLR_OK;
+  if (my->held.wants && my->again.wants && pthread_cond_init(&my->asleep.wake, NULL) == 0) return ASLR_OK;
   free(my->held.wants);
   free(my->again.wants);
   return ASLR_NO_MEMORY;
@@ -221,16 +276,14 @@ static uint32_t thread_open(mine *self) {
 
 static void thread_close(mine *self) {
   words_thread *my = self->at;
+  pthread_cond_destroy(&my->asleep.wake);
   free(my->held.wants);
   free(my->again.wants);
 }
 
 static void close_engine(aslr_runtime *runtime) {
   words_engine *engine = of_runtime(runtime);
-  for (uint32_t b = 0; b < engine->bucket_count; b++) {
-    pthread_cond_destroy(&engine->buckets[b].freed);
-    pthread_mutex_destroy(&engine->buckets[b].mutex);
-  }
+  for (uint32_t b = 0; b < engine->bucket_count; b++) pthread_mutex_destroy(&engine->buckets[b].mutex);
   free(engine->class_is_named);
   free(engine->nodes);
   free(engine);
@@ -249,11 +302,8 @@ static void read_names(words_engine *engine, const aslr_runtime *runtime) {
 static bool make_buckets(words_engine *engine) {
   for (; engine->bucket_count < BUCKETS; engine->bucket_count++) {
     bucket *b = &engine->buckets[engine->bucket_count];
+    b->end = &b->first;
     if (pthread_mutex_init(&b->mutex, NULL)) return false;
-    if (pthread_cond_init(&b->freed, NULL)) {
-      pthread_mutex_destroy(&b->mutex);
-      return false;
-    }
   }
   return true;
 }

@@ -126,6 +126,16 @@ static inline bool spins(spin *self) {
   return ++self->turns % 64 != 0 || now() < self->until;
 }
 
+/* ---- sleeping */
+
+/* Until the condition is signalled, or sooner. A thread that is cancelled here ends where it next may: else it would stay among those who wait. */
+static inline void sleep_on(pthread_cond_t *condition, pthread_mutex_t *mutex) {
+  int before;
+  pthread_setcancelstate(PTHREAD_CANCEL_DISABLE, &before);
+  pthread_cond_wait(condition, mutex);
+  pthread_setcancelstate(before, &before);
+}
+
 /* ---- the cell that an expression denotes */
 
 typedef enum { NO_CELL, A_CELL, HELD_BACK } located;
