@@ -22,6 +22,13 @@ export async function classRows(bench, number, all) {
   return { rows: own.trimEnd().replaceAll(ADVICE, '').split('\n').filter(Boolean), more: own.includes(ADVICE) };
 }
 
+// The first class that has more than one member; the first of all where none has.
+export async function firstJoined(bench) {
+  if (bench.kind !== 'asl') return 0;
+  const { text = '' } = await explained(bench.builtText, false), parts = text.split(/^(?=class \d+: )/m);
+  return Number(/^class (\d+): /.exec(parts.find(part => /\n {2}/.test(part)) || '')?.[1] ?? 0);
+}
+
 // The pieces of a row: those at odd places are `line N`, which no statement of a source has.
 export const piecesOf = row => row.split(/\b(line \d+)\b/);
 export const lineOf = piece => Number(piece.slice(5)) - 1;

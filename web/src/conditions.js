@@ -27,6 +27,8 @@ const OF_A_THREAD = [
     eventsOf(bench, t).some(e => e.reply === 'fault' && faultsAt(bench, e.fault, cell))],
   [/^(?:has|have) ended$/, (bench, t) => bench.state.threads[t]?.status === 'done'],
 ];
+const FORMS = 'it may be "is blocked", "is blocked in F", "is inside", "is inside F", "has left its section", "has printed 1", '
+  + '"has met a fault", "has met a fault at G" or "has ended"';
 const FUNCTION = /^(?:is|are) (?:blocked in|inside) (\w+)$/;
 
 // Who was in the way of the blocked step before the last one, and stepped.
@@ -69,7 +71,7 @@ export function readCondition(words) {
     const fits = ({ bench }) => (thread < 0 ? HOLDS[some || all](bench, is(bench)) : is(bench)(thread));
     return { words, fits, thread, function: FUNCTION.exec(said)?.[1] };
   }
-  return { refusal: `"${said}" is not what a lesson can ask of a thread` };
+  return { refusal: `"${said}" is not what a lesson can ask of a thread: ${FORMS}` };
 }
 
 function readOther(words) {
@@ -77,6 +79,9 @@ function readOther(words) {
     const found = pattern.exec(words);
     if (found) return { words, fits: context => asks(context, found[1]), thread: -1, ...more };
   }
-  if (/^threads? /.test(words)) return { refusal: 'a condition begins with "thread 0", "some thread", "all threads" or "no thread"' };
-  return { refusal: `"${words}" is not a condition` };
+  if (/^(\w+ )?threads?( |$)/.test(words)) return {
+    refusal: 'a condition of threads begins with "thread 0", "some thread", "all threads" or "no thread"' };
+  return { refusal: `"${words}" is not a condition: it is of threads, as "thread 0 ..", or "k is 1", "lists are enough", `
+    + '"lists are the inferred ones", "the run has at most 20 steps", "the run has at least 20 steps", '
+    + '"who is in the way has stepped", "some object is fresh" or "no object is fresh"' };
 }

@@ -10,7 +10,7 @@ import { setOrder } from './order.js';
 import { drawPredict, listenToPredict, togglePredict } from './panels/predict.js';
 import { setPredict, predict } from './predict.js';
 import { drawAnswers, closeAnswers, lessonLink, openAnswer, openHandIn } from './panels/answer.js';
-import { lessonList, openLesson, openLessonText, refusalList } from './panels/lesson.js';
+import { lessonList, openLesson, openLessonText, tellRefused, toChoices } from './panels/lesson.js';
 import { isLesson } from './lessontext.js';
 import { isAnswer, answerText, readAnswer } from './handin.js';
 import { copyText } from './files.js';
@@ -29,24 +29,18 @@ export const extraKeys = bench => ({
   p: () => breakHere(bench), '.': () => go(bench, 'break'), ',': () => go(bench, 'back'),
   C: () => derive(bench, 'c'), J: () => derive(bench, 'lists'),
   X: () => nextClass(bench), q: () => orderKey(bench), Q: () => setOrder(bench, false),
-  v: () => enterOwn(bench), P: () => togglePredict(bench), H: openHandIn,
+  v: () => enterOwn(bench), P: () => togglePredict(bench), H: () => openHandIn(bench),
+  S: toChoices,
 });
 export const extraButtons = bench => ({ 'own-open': () => toggleOwn(bench), predict: () => togglePredict(bench),
   order: () => toggleOrder(bench),
-  'lesson-hand-in': openHandIn, 'answer-close': () => closeAnswers(bench) });
+  'lesson-hand-in': () => openHandIn(bench), 'answer-close': () => closeAnswers(bench) });
 
 // ---- lessons and answers from files and links
 
-// What is wrong with it, in a dialog, line by line.
-function told(name, wrong) {
-  if (wrong.length) openDialog(`${name} is refused`, el('p', {}, 'Nothing was opened. What is wrong:'), refusalList(wrong.slice(0, 100)));
-}
-// Says whether it was opened.
-async function openText(bench, text, examples, name, isOfAnswer) {
-  const wrong = await (isOfAnswer ? openAnswer(bench, text, examples, name) : openLessonText(bench, text));
-  told(name, wrong);
-  return !wrong.length;
-}
+// Answers what is wrong with it, line by line.
+const openText = (bench, text, examples, name, isOfAnswer) => (isOfAnswer ? openAnswer(bench, text, examples, name)
+  : openLessonText(bench, text));
 // What is to be done for a file that is a lesson or an answer; nothing where it is neither.
 const reader = (bench, examples) => (name, text) => {
   const isOfAnswer = isAnswer(text) || /\.answer$/.test(name);
@@ -64,7 +58,11 @@ export async function openGivenLink(bench, fragment, examples) {
   const [, word, letters] = GIVEN.exec(fragment) || [];
   if (!word) return false;
   const isOfAnswer = word === 'answer', text = await unpackText(letters).catch(() => null);
-  if (text !== null) return openText(bench, text, examples, isOfAnswer ? 'The answer' : 'The lesson', isOfAnswer);
+  if (text !== null) {
+    const name = isOfAnswer ? 'The answer' : 'The lesson', wrong = await openText(bench, text, examples, name, isOfAnswer);
+    if (wrong.length) tellRefused([{ name, wrong }], 1);
+    return !wrong.length;
+  }
   note('The link is damaged: it cannot be read.');
   return false;
 }

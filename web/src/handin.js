@@ -23,14 +23,14 @@ function recordText(record, opening) {
   const lists = record.own.map((list, s) => (list === null || list === undefined ? '' : block('list', s, list))).join('');
   return (record.text === opening.text && record.title === opening.title ? '' : block('program', record.title, record.text))
     + `k ${record.k}\nthreads ${record.threads}\n${lists}` + (record.schedule.length ? `steps ${packSteps(record.schedule)}\n` : '')
-    + `at ${record.position}\n` + (record.picked ? `choice ${record.picked}\n` : '');
+    + `at ${record.position}\n` + (record.picked ? `choice ${record.picked}\n` : '') + (record.tried ? 'tried\n' : '');
 }
 
 export function answerText(number, records, by) {
   const read = LESSONS[number];
   const steps = records.map((record, i) => (record ? `\nstep ${i + 1}\n` + recordText(record, openingAt(read, i)) : ''));
   return `answer ${read.title}\n` + (by ? `by ${by}\n` : '')
-    + (isOfPage(number) ? `lesson ${number + 1}\n` : block('lesson', 'text', read.file)) + steps.join('');
+    + (isOfPage(number) ? `lesson ${number + 1}\n` : block('lesson', 'text', read.bare)) + steps.join('');
 }
 
 // ---- reading
@@ -52,6 +52,7 @@ const OF_A_STEP = {
   threads: (record, said) => (isNumber(said, 128) && said > 0 ? (record.threads = Number(said), '') : 'threads are 1 to 128'),
   at: (record, said) => (isNumber(said, MOST_STEPS) ? (record.position = Number(said), '') : 'this is no position'),
   choice: (record, said) => { record.picked = said; return ''; },
+  tried: (record, said) => { record.tried = true; return said && 'nothing stands behind "tried"'; },
   steps: (record, said) => ((record.schedule = unpackSteps(said, record.threads) || []).length ? '' : 'these are no steps of its threads'),
   list: (record, said, text) => (isNumber(said, 1023) ? (record.own[said] = text, '') : 'this is no section'),
   program: (record, said, text) => (/^[^/\\]+\.as[lm]$/.test(said)
@@ -99,7 +100,7 @@ class AnswerReader {
     }
     const { lesson, refusals } = readLesson(text, this.examples);
     if (refusals) return `the lesson in it is refused: line ${refusals[0].line}, ${refusals[0].words}`;
-    Object.assign(this, { read: lesson, number: LESSONS.findIndex(other => other.file === text) });
+    Object.assign(this, { read: lesson, number: LESSONS.findIndex(other => other.bare === lesson.bare) });
     return '';
   }
   begin(said) {
@@ -123,7 +124,7 @@ export function readAnswer(text, examples) {
 class Quiet extends Bench {
   constructor() { super(() => {}, { state: () => null, restore: () => {} }); }
   drop() { clearTimeout(this.typing); return ++this.turn; }
-  async findLists() { /* of no use here */ }
+  findRest() { /* of no use here */ }
 }
 
 const sleep = ms => new Promise(done => setTimeout(done, ms));
@@ -139,7 +140,8 @@ async function judgeStep(bench, read, i, record) {
   }
   const done = isDone(context, step, opening, record.picked);
   const other = record.text !== opening.text && record.title === opening.title;
-  return { done, words: (done ? '' : 'what was handed in does not do it') + (other ? `${done ? '' : '; '}with a changed text` : '') };
+  const lacks = record.tried ? 'tried, not done' : 'what was handed in does not do it';
+  return { done, words: (done ? '' : lacks) + (other ? `${done ? '' : '; '}with a changed text` : '') };
 }
 
 // For each step whether it is done, and what there is to say.

@@ -1,8 +1,9 @@
-// What a reload finds again: the address says all, or where that would be too long the browser's store of this tab.
+// What a reload finds again: the address says all, or where that would be too long the browser's store of this tab. What is newer than the
+// address when the page is left is in that store, too: an address that is set then is not the one that a reload opens.
 
 const LONGEST = 30_000; // letters of an address that browsers and mail let pass
-const MARK = '#kept=', STORE = 'asl-workbench-';
-const kept = { own: '', name: '', where: '' };
+const MARK = '#kept=', STORE = 'asl-workbench-', LEFT = 'left';
+const kept = { own: '', name: '', where: '', entry: '', left: 0 }; // `entry` is a name of its own of this place in the tab's history
 
 const newName = () => Array.from(crypto.getRandomValues(new Uint8Array(6)), byte => byte.toString(36)).join('');
 
@@ -10,7 +11,7 @@ const newName = () => Array.from(crypto.getRandomValues(new Uint8Array(6)), byte
 function setAddress(fragment) {
   kept.own = fragment;
   if (location.hash === fragment) return true;
-  try { history.replaceState(null, '', fragment); return true; } catch { return false; }
+  try { history.replaceState({ entry: kept.entry }, '', fragment); return true; } catch { return false; }
 }
 function store(name, fragment) {
   try { sessionStorage.setItem(STORE + name, fragment); return true; } catch { return false; }
@@ -24,6 +25,27 @@ export function keepFragment(fragment) {
   return 'not kept over a reload: too long for the address, and the browser has no store for it';
 }
 
+// What is there when the page is left, as plain data.
+export function leaveBehind(moment) {
+  kept.left++;
+  return store(LEFT, JSON.stringify({ entry: kept.entry, moment }));
+}
+export const timesLeft = () => kept.left;
+export function forgetLeft() { try { sessionStorage.removeItem(STORE + LEFT); } catch { /* there is no store */ } }
+// What the page has left at this place of the history, to which a reload or a way back has come. (The address may have been written anew
+// between.) It is given once.
+export function takeLeft() {
+  try {
+    const { entry, moment } = JSON.parse(sessionStorage.getItem(STORE + LEFT)) || {};
+    forgetLeft();
+    return entry && entry === history.state?.entry ? moment : null;
+  } catch { return null; }
+}
+function nameEntry() {
+  kept.entry = history.state?.entry || newName();
+  try { history.replaceState({ entry: kept.entry }, ''); } catch { /* then nothing is taken */ }
+}
+
 // Whether the address is another one than that which the page has written.
 export const isForeign = () => location.hash !== kept.own;
 
@@ -31,6 +53,7 @@ export const isForeign = () => location.hash !== kept.own;
 export function keptFragment() {
   const { hash } = location;
   kept.own = hash;
+  nameEntry();
   if (!hash.startsWith(MARK)) return hash;
   kept.name = hash.slice(MARK.length);
   try { return sessionStorage.getItem(STORE + kept.name) || ''; } catch { return ''; }

@@ -1,4 +1,5 @@
-// Everything by keyboard. In the editor only Escape is a key of the workbench.
+// Everything by keyboard: the table of keys that `?` shows, and which action a key calls; the actions are bound to it in listening.js. In
+// the editor only Escape is a key of the workbench.
 
 export const KEYS = [
   ['0 to 9', 'step that thread'], ['← →', 'one event back, forward'], ['Shift ← →', 'ten events'], ['Home End', 'start, end'],
@@ -16,7 +17,9 @@ export const KEYS = [
   ['Y', 'to its next event that is not “ran”'], ['I', 'to a line'],
   ['p', 'a breakpoint at its line, or none'], ['.  ,', 'all go to a breakpoint, or back to one'],
   ['q  Q', 'the order of two events in conflict, from one to the next; off'],
-  ['P', 'predict each step'], ['H', 'hand in what a lesson has'],
+  ['P', 'predict each step'],
+  ['S  ↑ ↓', 'to the choices of a lesson’s step, or what opens its program; from one to the next; Enter takes it'],
+    ['H', 'hand in what a lesson has'],
   ['m', 'instructions, hidden or shown'],
   ['l', 'all lanes, or those with events in view'], ['+  −', 'zoom of the timeline'],
     ['L', 'lecture: large, for a projector'], ['y  M', 'in a lecture: the lists over k, all other buttons'],

@@ -10,18 +10,22 @@ import { hasOwn, partsOfText, underLists } from './own.js';
 async function wrongText({ text, kind, k, line, first }) {
   const { refusal } = await (kind === 'asl' ? compileText(text, k) : assemble(text));
   if (!refusal) return [];
-  const told = await explainRefusal(refusal, text, kind, k);
-  return [{ line: first && told.line ? first + told.line - 1 : line, words: `the program is refused: ${told.words}` }];
+  const told = await explainRefusal(refusal, text, kind, k), lineOf = row => (first ? first + Number(row) - 1 : Number(row));
+  const words = told.words.replace(/At line (\d+)/, (_, row) => 'At line ' + lineOf(row)), hint = told.hint?.replace('expected ;; ', '');
+  return [{ line: first && told.line ? lineOf(told.line) : line, words: `the program is refused: ${words}${hint ? '; ' + hint : ''}` }];
 }
 
 async function wrongLists({ text, k, own, listLines = [] }) {
   if (!hasOwn(own)) return [];
   const { lists } = partsOfText((await compileText(text, k)).text), beyond = own.findIndex((list, s) => list !== undefined && !lists[s]);
-  if (own.length > lists.length) return [{ line: listLines[own.length - 1], words: `the program has no section ${own.length - 1}` }];
+  if (own.length > lists.length) return [{ line: listLines[own.length - 1],
+    words: `the program has no section ${own.length - 1}: ${sectionsOf(lists.length)}` }];
   const { told } = await underLists(text, k, own);
-  return told ? [{ line: listLines[told.list ?? Math.max(beyond, 0)], words: told.words }] : [];
+  return told ? [{ line: listLines[told.list ?? Math.max(beyond, 0)] + (told.inList || 0), words: told.words }] : [];
 }
+const sectionsOf = n => (n > 1 ? `it has the sections 0 to ${n - 1}` : n ? 'it has section 0 alone' : 'it has none');
 
+// (null where it is not known)
 const functionsOf = async ({ text, kind }) => (kind === 'asl' ? (await mapSource(text)).functions.filter(Boolean) : []);
 
 // A step's conditions, against the program that is open there.
@@ -29,7 +33,8 @@ function wrongStep(step, opening, functions, source) {
   const wrong = [];
   for (const { line, thread, function: name, judges } of step.until) {
     if (thread >= opening.threads) wrong.push({ line, words: `there is no thread ${thread}: there are ${opening.threads}, from 0 on` });
-    if (name && !functions.includes(name)) wrong.push({ line, words: `${opening.title} has no function "${name}"` });
+    if (name && functions && !functions.includes(name)) wrong.push({ line,
+      words: `${opening.title} has no function "${name}"${functions.length ? `: there are ${functions.join(', ')}` : ''}` });
     if (judges && opening.kind !== 'asl' && !source) wrong.push({ line,
       words: 'lists of an assembly program are judged by its source: "source" and "end source" are missing' });
   }
@@ -44,12 +49,14 @@ export async function checkLesson(lesson) {
   for (const step of [lesson, ...lesson.steps]) {
     if (step.opening) {
       opening = step.opening;
+      functions = null;
+    }
+    if (step.opening && !opening.isBroken) {
       const refused = await wrongText(opening);
       wrong.push(...refused, ...(refused.length || opening.kind !== 'asl' ? [] : await wrongLists(opening)));
-      functions = refused.length ? [] : await functionsOf(opening);
-      if (refused.length) break;
+      functions = refused.length ? null : await functionsOf(opening);
     }
-    if (step.until) wrong.push(...wrongStep(step, opening, functions, source));
+    if (step.until && opening) wrong.push(...wrongStep(step, opening, functions, source));
   }
   const rows = lesson.file.split('\n');
   return wrong.map(told => ({ row: rows[told.line - 1] ?? '', ...told }));

@@ -22,8 +22,22 @@ export const examplesOf = () => page.examples;
 export const isOfPage = number => number >= 0 && number < page.lessons;
 // The number of a lesson that was opened: the same text has the same number.
 export function addLesson(read) {
-  const known = LESSONS.findIndex(other => other.file === read.file);
+  const known = LESSONS.findIndex(other => other.bare === read.bare);
   return known < 0 ? LESSONS.push(read) - 1 : known;
+}
+// The lessons that were opened here.
+const openedHere = () => LESSONS.slice(page.lessons);
+export const isKnown = ({ number, read }) => isOfPage(number) || openedHere().some(own => !lineOfDifference(own, read));
+// The line of the last one of its title that was opened here from which on a lesson differs; 0 where none was.
+export function differsAt(read) {
+  const own = openedHere().findLast(({ title }) => title === read.title);
+  return own ? lineOfDifference(own, read) : 0;
+}
+// (A line has its number in the own file, which may have lines that others do not get.)
+const rowsOf = ({ bare }) => bare.trimEnd().split('\n').map(row => row.trimEnd());
+function lineOfDifference(own, other) {
+  const rows = rowsOf(own), others = rowsOf(other), at = rows.findIndex((row, i) => row !== others[i]);
+  return at < 0 && others.length <= rows.length ? 0 : own.given[at < 0 ? rows.length - 1 : at].line;
 }
 
 export const chosen = () => LESSONS[lesson.number];
@@ -79,6 +93,16 @@ async function unpackRecords(did) {
 // What was there when a step was done.
 const recordOf = (bench, picked) => ({ title: bench.title, kind: bench.kind, text: bench.text, k: bench.k, threads: bench.run.threads,
   own: bench.own.map(list => list ?? null), schedule: bench.run.schedule, position: bench.position, picked });
+
+// What is tried at the present step, and was not there when the one before it was done; nothing where there is no such.
+export function triedHere(bench) {
+  const read = chosen(), { done } = lesson, opening = read && !isOver() && openingAt(read, done), picked = lesson.picked[done] ?? '';
+  if (!opening || !bench.run || bench.refusal || bench.going || !isOpened(bench, opening)) return null;
+  const record = { ...recordOf(bench, picked), tried: true }, { schedule, own, text } = record, before = lesson.records[done - 1];
+  const began = before && isOpened(before, opening) ? before : opening;
+  const isSame = name => JSON.stringify(record[name]) === JSON.stringify(began[name]);
+  return !picked && ['text', 'schedule', 'k', 'threads'].every(isSame) && String(own) === String(began.own) ? null : record;
+}
 
 // A step that was done stays done; only the present one is looked at.
 export function advance(bench, told) {

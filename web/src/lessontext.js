@@ -7,6 +7,7 @@ export const FORBIDS = { robin: 'Round robin', until: 'Until blocked', random: '
   which: 'which lock is missing', edit: 'another text', lists: 'other lists', k: 'another k', threads: 'another number of threads' };
 const BLOCKS = ['program', 'source', 'list'];
 const MOST = { lines: 20000, steps: 60, choices: 9 };
+const STEP = /^step\s+[^=\s]/; // in a source `step` would stand before `=`
 const KEY = /^(?:[^*\s]|Left|Right|Up|Down|Home|End|Enter|Escape|open|right|list\d+)(?:\*\d{1,3})?$/;
 const NUMBERS = { k: [0, 8], threads: [1, 128] };
 
@@ -19,7 +20,7 @@ function dedent(rows) {
 class Reader {
   constructor(text, examples) {
     const rows = text.replace(/\r\n?/g, '\n').split('\n');
-    Object.assign(this, { rows, examples, at: 0, refusals: [], step: null, seen: new Set(),
+    Object.assign(this, { rows, examples, at: 0, refusals: [], step: null, seen: new Set(), own: new Set(),
       lesson: { title: '', about: '', answer: '', source: '', k: 3, threads: 2, forbids: [], steps: [], opening: null } });
   }
   refuse(line, words) { this.refusals.push({ line, words, row: this.rows[line - 1] ?? '' }); }
@@ -31,6 +32,7 @@ class Reader {
     return this;
   }
   take(row, line) {
+    if (/^(#|keys\b)/.test(row)) this.own.add(line);
     if (!row || row.startsWith('#')) return;
     const [, word, said] = /^(\S+) *(.*)$/.exec(row);
     const known = Object.hasOwn(WORDS, word) && WORDS[word];
@@ -40,8 +42,9 @@ class Reader {
     this.seen.add('lesson');
   }
   put(word, said, line, { place, once = true, take }) {
-    const block = BLOCKS.includes(word) ? this.block(word, line) : null;
+    const block = BLOCKS.includes(word) ? this.block(word, line) : '';
     if (!this.step && /^(example|program)$/.test(word)) this.named = true; // (what is wrong with it is told by its line)
+    if (block === null) return word === 'program' && this.openBroken(said, line);
     if (place === 'step' && !this.step) return this.refuse(line, `"${word}" stands after a "step"`);
     if (place === 'head' && this.step) return this.refuse(line, `"${word}" stands before the first "step"`);
     if (!said && word !== 'source') return this.refuse(line, `something is missing after "${word}"`);
@@ -50,18 +53,22 @@ class Reader {
     this.seen.add(key);
     return take(this, said, line, block);
   }
-  // The lines up to `end WORD`.
+  // The lines up to `end WORD`; nothing where that is missing, also before the next step: then what stands in between is passed over.
   block(word, line) {
-    const from = this.at + 1, length = this.rows.slice(from).findIndex(row => row.trim() === 'end ' + word);
-    if (length < 0) { this.refuse(line, `"end ${word}" is missing`); return ''; }
-    this.at = from + length;
-    return dedent(this.rows.slice(from, from + length));
+    const from = this.at + 1, rest = this.rows.slice(from).map(row => row.trim()), length = rest.indexOf('end ' + word);
+    const step = rest.findIndex(row => STEP.test(row));
+    if (length >= 0 && (step < 0 || length < step)) {
+      this.at = from + length;
+      return dedent(this.rows.slice(from, from + length));
+    }
+    this.at = step < 0 ? this.rows.length : from + step - 1;
+    this.refuse(line, `the ${word} has no \`end ${word}\`` + (step < 0 ? '' : ` before the \`step\` in line ${from + step + 1}`));
+    return null;
   }
   number(word, said, line) {
     const [low, high] = NUMBERS[word], n = Number(said);
     if (/^\d{1,3}$/.test(said) && n >= low && n <= high) return n;
-    this.refuse(line, `${word} is a number from ${low} to ${high}`);
-    return low;
+    return this.refuse(line, `${word} is a number from ${low} to ${high}`);
   }
   // The program of the present step, or of the lesson.
   open(opening, line) {
@@ -69,6 +76,8 @@ class Reader {
     if (owner.opening) return this.refuse(line, 'a program stands here already');
     owner.opening = { own: [], schedule: [], line, k: lesson.k, threads: lesson.threads, ...opening };
   }
+  // One that is refused stands there, so that what is said of it is not taken for the one before it.
+  openBroken(title, line) { this.open({ title, kind: title.slice(-3), text: '', isBroken: true }, line); }
   get opening() { return (this.step || this.lesson).opening; }
 
   close() {
@@ -83,8 +92,10 @@ class Reader {
       title = step.opening?.title || title;
     }
   }
+  // The lines that others get: all but keys and what stands behind `#`, which may tell how it is done and which the page does not need.
+  given() { return this.rows.map((row, i) => ({ row, line: i + 1 })).filter(({ line }) => !this.own.has(line)); }
   closeStep(step) {
-    if (!step.until.length && !step.choices.length) this.refuse(step.line, 'this step has no "until", and no "choice"');
+    if (!step.asks && !step.choices.length) this.refuse(step.line, 'this step has no "until", and no "choice"');
     if (step.choices.length === 1) this.refuse(step.line, 'this step has one "choice" only');
     if (step.choices.length && !step.right) this.refuse(step.line, 'this step has no "right" choice');
     if (step.right && !step.choices.includes(step.right)) this.refuse(step.rightLine, 'this is none of the choices');
@@ -99,22 +110,31 @@ const WORDS = {
   answer: { place: 'end', take: text('answer') },
   source: { place: 'head', take: (reader, said, line, block) => Object.assign(reader.lesson, { source: block, sourceLine: line }) },
   example: { take: (reader, said, line) => {
-    if (!Object.hasOwn(reader.examples, said)) return reader.refuse(line, `the page has no example "${said}"`);
+    if (!Object.hasOwn(reader.examples, said)) {
+      reader.openBroken(said, line);
+      return reader.refuse(line, `the page has no example "${said}"`);
+    }
     reader.open({ text: reader.examples[said].text, kind: reader.examples[said].kind, title: said }, line);
   } },
   program: { take: (reader, said, line, block) => {
-    if (!/^[\w.-]+\.as[lm]$/.test(said)) return reader.refuse(line, 'the name of a program ends in .asl or .asm');
+    if (!/^[\w.-]+\.as[lm]$/.test(said)) {
+      reader.openBroken(said, line);
+      return reader.refuse(line, 'the name of a program ends in .asl or .asm');
+    }
     reader.open({ text: block, kind: said.slice(-3), title: said, first: line + 1 }, line);
   } },
   list: { once: false, take: (reader, said, line, block) => {
     if (!/^\d{1,4}$/.test(said)) return reader.refuse(line, 'after "list" stands the number of a section');
     if (!reader.opening) return reader.refuse(line, 'a list stands after its program');
-    if (reader.opening.kind !== 'asl') return reader.refuse(line, 'an assembly program has its lists itself');
+    if (reader.opening.kind === 'asm') return reader.refuse(line, 'an assembly program has its lists itself');
     reader.opening.own[Number(said)] = block;
     (reader.opening.listLines ||= [])[Number(said)] = line;
   } },
-  k: { take: (reader, said, line) => { (reader.opening || reader.lesson).k = reader.number('k', said, line); } },
-  threads: { take: (reader, said, line) => { (reader.opening || reader.lesson).threads = reader.number('threads', said, line); } },
+  k: { take: (reader, said, line) => { const of = reader.opening || reader.lesson; of.k = reader.number('k', said, line) ?? of.k; } },
+  threads: { take: (reader, said, line) => {
+    const of = reader.opening || reader.lesson;
+    of.threads = reader.number('threads', said, line) ?? of.threads;
+  } },
   steps: { take: (reader, said, line) => {
     if (!reader.opening) return reader.refuse(line, 'steps stand after their program');
     const steps = said.split(/\s+/).map(Number), bad = steps.find(t => !Number.isInteger(t) || t < 0 || t >= reader.opening.threads);
@@ -134,6 +154,7 @@ const WORDS = {
   } },
   hint: { place: 'step', take: ofStep('hint') }, then: { place: 'step', take: ofStep('then') },
   until: { place: 'step', once: false, take: (reader, said, line) => {
+    reader.step.asks = true; // (what is wrong with it is told by its line)
     const condition = readCondition(said);
     if (condition.refusal) return reader.refuse(line, condition.refusal);
     reader.step.until.push({ ...condition, line });
@@ -153,8 +174,9 @@ const WORDS = {
 
 export const isLesson = text => /^(?:\s*(?:#[^\n]*)?\n)*\s*lesson\b/.test(text);
 
-// A lesson, or the refusals of its lines.
+// A lesson, or the refusals of its lines and what could be read. `file` is its text, `bare` what others get of it.
 export function readLesson(text, examples) {
-  const { lesson, refusals } = new Reader(text, examples).read();
-  return refusals.length ? { refusals: refusals.sort((a, b) => a.line - b.line) } : { lesson: { ...lesson, file: text } };
+  const reader = new Reader(text, examples).read(), { lesson, refusals } = reader, given = reader.given();
+  const read = { ...lesson, file: text, given, bare: given.map(({ row }) => row).join('\n') };
+  return refusals.length ? { refusals: refusals.sort((a, b) => a.line - b.line), partly: read } : { lesson: read };
 }

@@ -1,7 +1,7 @@
 // How the page looks, as a link says it: `view=code,time,locks` shows these panels alone, `lecture`, `theme=dark`, `size=18`, `keys=off`.
 
 import { byId } from './dom.js';
-import { isDark, LARGE, setDark, setLecture, setTextSize, sizeAsked, toggleInstructions } from './page.js';
+import { isDark, setDark, setLecture, setTextSize, sizeAsked, toggleInstructions } from './page.js';
 
 export const PANELS = { lesson: 's-lesson', time: 's-time', code: 's-code', lists: 's-sections', locks: 's-locks', threads: 's-threads',
   heap: 's-heap', events: 's-events' };
@@ -39,7 +39,7 @@ export function lookWords() {
   if (look.view) words.push('view=' + look.view.join(','));
   if (lecture) words.push('lecture');
   if (look.theme || isDark() !== prefersDark()) words.push('theme=' + (isDark() ? 'dark' : 'light'));
-  if (size !== (lecture ? LARGE : 0) && size !== 15) words.push('size=' + size);
+  if (size && (lecture || size !== 15)) words.push('size=' + size);
   if (!look.keys) words.push('keys=off');
   return words;
 }

@@ -6,12 +6,13 @@ import { assemblyOf, readFile, sourceOf } from './files.js';
 import { closeTrouble, tellTrouble } from './panels/trouble.js';
 import { note, openDialog } from './page.js';
 import { Dropped, unlessDropped } from './aside.js';
-import { lessonOf } from './panels/lesson.js';
+import { lessonOf, tellRefused } from './panels/lesson.js';
 import { wordsOfFragment } from './share.js';
 
 const MOST_OPENED = 200;
 export const opened = []; // { name, whole }, and the image of one that has found no source
-// Other kinds of texts: functions of a name and a text, which answer nothing where it is none of theirs, else what is to be done.
+// Other kinds of texts: functions of a name and a text, which answer nothing where it is none of theirs, else what is to be done; that
+// answers what is wrong.
 export const readers = [];
 
 const clean = words => words.replace(/\p{Cf}/gu, '');
@@ -68,7 +69,12 @@ export async function openFiles(bench, examples, files) {
     const source = await sourceOf(orphan.image, sources);
     if (source) shown.push(remember({ name: orphan.name, whole: { ...source, ...orphan.run } }));
   }
-  for (const { done } of parts) if (done) await done();
+  const refused = [];
+  for (const { name, done } of parts) {
+    const wrong = done ? await done() : [];
+    if (wrong.length) refused.push({ name, wrong });
+  }
+  if (refused.length) tellRefused(refused, files.length);
   const last = shown.findLast(({ whole }) => whole.schedule) || shown.at(-1);
   if (last) await show(bench, last, shown.length);
 }

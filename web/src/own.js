@@ -63,7 +63,8 @@ function noLock(own) {
   const row = own[list].split('\n').find(text => OTHER.test(text)).trim();
   const words = `List of section ${list}: \x60${row}\x60 is no lock. Locks are written \x60expr r1 write\x60, `
     + '\x60expr r1 * .1 read\x60, \x60expr g0 * write\x60, \x60class 0 read\x60 or \x60root write\x60.';
-  return { refusal: 'Line', told: { name: 'Line', words, at: -1, ofLists: true, list } };
+  const inList = 1 + own[list].split('\n').findIndex(text => OTHER.test(text));
+  return { refusal: 'Line', told: { name: 'Line', words, at: -1, ofLists: true, list, inList } };
 }
 
 async function toldOfLists(text, refusal) {
@@ -72,7 +73,8 @@ async function toldOfLists(text, refusal) {
   if (!told) return { name: refusal, words: 'The lists are refused: ' + refusal, at: -1, ofLists: true };
   const { list, line } = placeInLists(text, Number(told[1])), [, acquired] = /^\s*acq (\d+)/.exec(row) || [];
   const where = list < 0 ? `List of section ${acquired}` : `List of section ${list}, line ${line}, \x60${row.trim()}\x60`;
-  return { name: refusal, words: `${where}: ${told[3]}`, at: -1, ofLists: true, list: list < 0 ? Number(acquired) : list };
+  const place = list < 0 ? { list: Number(acquired) } : { list, inList: line };
+  return { name: refusal, words: `${where}: ${told[3]}`, at: -1, ofLists: true, ...place };
 }
 
 // Whether lists are enough for a source: { enough }, or the lock that one of them lacks, or why neither can be said.

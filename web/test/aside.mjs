@@ -1,9 +1,9 @@
 // The order of the calls beside the page, with a worker that is played: node web/test/aside.mjs
 import { Aside, Dropped, Failed, Stopped } from '../src/aside.js';
+import { comes } from './socket.mjs';
 
 let passed = 0, failed = 0;
 const check = (is, words) => { if (is) passed++; else { failed++; console.log('FAILED', words); } };
-const sleep = ms => new Promise(done => setTimeout(done, ms));
 const workers = [];
 
 // Answers when the test says so.
@@ -40,7 +40,7 @@ const outcome = promise => promise.then(answer => answer.output, error => error)
   const aside = fresh(), a = outcome(aside.ask('a'));
   aside.drop();
   const b = outcome(aside.ask('b'));
-  await sleep(250);
+  await comes(() => workers.length === 2);
   check(workers.length === 2 && workers[0].ended && await a instanceof Dropped, 'its worker is ended');
   workers[0].answer(0, { number: workers[1].asked[0].number, output: 'old' });
   workers[1].answer(0);

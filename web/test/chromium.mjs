@@ -4,8 +4,8 @@ import { spawn } from 'node:child_process';
 import { mkdtempSync, rmSync, writeFileSync } from 'node:fs';
 import { tmpdir } from 'node:os';
 import { join } from 'node:path';
+import { comes, connect, end, MINUTE, sized, sleep } from './socket.mjs';
 
-const sleep = ms => new Promise(done => setTimeout(done, ms));
 const OPTIONS = ['--headless=new', '--no-sandbox', '--disable-gpu', '--hide-scrollbars', '--remote-debugging-port=0'];
 
 // The numbers and the texts of keys that are no letters.
@@ -27,35 +27,20 @@ const portOf = child => new Promise((done, fail) => {
 });
 
 async function pageOf(port) {
-  for (let i = 0; i < 60; i++) {
+  let page;
+  await comes(async () => {
     const pages = await (await fetch(`http://127.0.0.1:${port}/json`)).json();
-    const page = pages.find(it => it.type === 'page');
-    if (page) return page.webSocketDebuggerUrl;
-    await sleep(100);
-  }
-  throw new Error('Chromium has no page');
-}
-
-async function connect(url, heard) {
-  const socket = new WebSocket(url), waiting = new Map();
-  let last = 0;
-  await new Promise(done => { socket.onopen = done; });
-  socket.onmessage = message => {
-    const told = JSON.parse(message.data);
-    if (told.id) { waiting.get(told.id)(told); waiting.delete(told.id); } else heard(told);
-  };
-  const send = (method, params = {}) => new Promise(done => {
-    waiting.set(++last, done);
-    socket.send(JSON.stringify({ id: last, method, params }));
+    return page = pages.find(it => it.type === 'page');
   });
-  return { socket, send };
+  if (!page) throw new Error('Chromium has no page');
+  return page.webSocketDebuggerUrl;
 }
 
 export async function openChromium(binary = process.env.CHROMIUM || 'chromium') {
   const profile = mkdtempSync(join(tmpdir(), 'workbench-'));
   const child = spawn(binary, [...OPTIONS, '--user-data-dir=' + profile, 'about:blank'], { stdio: ['ignore', 'ignore', 'pipe'] });
   const errors = [], requests = [];
-  const { socket, send } = await connect(await pageOf(await portOf(child)), told => {
+  const { socket, send } = await connect(await pageOf(await portOf(child)), 'Chromium', told => {
     const { method, params } = told;
     if (method === 'Runtime.exceptionThrown') errors.push(params.exceptionDetails.exception?.description || params.exceptionDetails.text);
     if (method === 'Log.entryAdded' && params.entry.level === 'error') errors.push(params.entry.text);
@@ -66,21 +51,24 @@ export async function openChromium(binary = process.env.CHROMIUM || 'chromium') 
   // a page that is so many times slower shows which checks depend on the time
   if (process.env.SLOW) await send('Emulation.setCPUThrottlingRate', { rate: +process.env.SLOW });
   const run = async expression => {
-    const { result } = await send('Runtime.evaluate', { expression, awaitPromise: true, returnByValue: true });
+    const { result, error } = await send('Runtime.evaluate', { expression, awaitPromise: true, returnByValue: true });
+    if (error) throw new Error(error.message);
     if (result.exceptionDetails) throw new Error(result.exceptionDetails.exception?.description || result.exceptionDetails.text);
     return result.result.value;
   };
   const frames = () => run('new Promise(done => requestAnimationFrame(() => requestAnimationFrame(() => setTimeout(done))))');
   return {
     name: 'Chromium ' + version, errors, requests, send, run, sleep, frames,
-    size: (width, height, scale = 1) => send('Emulation.setDeviceMetricsOverride', { width, height, deviceScaleFactor: scale, mobile: false }),
+    async size(width, height, scale = 1) {
+      await send('Emulation.setDeviceMetricsOverride', { width, height, deviceScaleFactor: scale, mobile: false });
+      await sized(run, width, height);
+    },
     media: (dark, media = '') => send('Emulation.setEmulatedMedia', { media, features: [{ name: 'prefers-color-scheme', value: dark ? 'dark' : 'light' }] }),
     vision: type => send('Emulation.setEmulatedVisionDeficiency', { type }),
     async open(url, ready) {
       await send('Page.navigate', { url: 'about:blank' });
       await send('Page.navigate', { url });
-      for (let i = 0; i < 200; i++) { if (await run(ready).catch(() => false)) return; await sleep(50); }
-      throw new Error('not ready: ' + url + ' ' + errors.join('; '));
+      if (!await comes(() => run(ready).catch(() => false))) throw new Error(`not ready after ${MINUTE} ms: ${url.slice(0, 200)} ${errors.join('; ')}`);
     },
     insertText: text => send('Input.insertText', { text }),
     async click(x, y) {
@@ -105,10 +93,10 @@ export async function openChromium(binary = process.env.CHROMIUM || 'chromium') 
     },
     async close() {
       socket.close();
-      child.kill();
-      await sleep(300);
+      await end(child);
       // (processes of its own may write there for a moment longer)
-      try { rmSync(profile, { recursive: true, force: true, maxRetries: 5, retryDelay: 200 }); } catch { await sleep(2000); rmSync(profile, { recursive: true, force: true, maxRetries: 5, retryDelay: 200 }); }
+      const remove = () => rmSync(profile, { recursive: true, force: true, maxRetries: 5, retryDelay: 200 });
+      try { remove(); } catch { await sleep(2000); remove(); }
     },
   };
 }

@@ -1,6 +1,6 @@
 // Why one class: what the page says is what the native program says, and a line of it marks that line of the program.
 import { readFileSync } from 'node:fs';
-import { asl, browser, check, key, open, part, run, settled, textOf } from './kit.mjs';
+import { asl, check, key, open, part, run, settled, textOf } from './kit.mjs';
 import { EXAMPLES } from './paths.mjs';
 
 // What the panel shows, row by row; and what the native program says of each class, in the same way.
@@ -62,6 +62,17 @@ await part('why one class: a line of a chain marks that line in the program, by 
   check(!await isOpen(), 'its button closes it');
 });
 
+await part('why one class: it begins where something is joined, and says of one member that there is nothing to join', async () => {
+  await open('#example=bank.asl&k=0&threads=2'); await key('X'); await settled();
+  check(await textOf('#class-name') === 'class 0' && (await rows()).length > 5, 'where no lock is shown: ' + await rows());
+  await open('#example=bank.asl&k=0&threads=2&steps=' + '0'.repeat(57) + '1'.repeat(52) + '01&at=111'); await key('X'); await settled();
+  check(await textOf('#class-name') === 'class 1' && /All its objects are made at this line; there is nothing to join\./.test(await textOf('#class-rows')), 'the lock that is shown: ' + await textOf('#class-rows'));
+  await key('X'); await settled();
+  check(await textOf('#class-name') === 'class 0' && !/nothing to join/.test(await textOf('#class-rows')), 'then the other: ' + await textOf('#class-rows'));
+  await open('#example=counter.asl&k=0&threads=2'); await key('X'); await settled();
+  check(/It has this one member; there is nothing to join\./.test(await textOf('#class-rows')), 'a global alone: ' + await textOf('#class-rows'));
+});
+
 await part('why one class: more members on request, another text, an assembly text', async () => {
   await open();
   await run(`workbench.bench.load({ text: ${JSON.stringify(MANY)}, kind: 'asl', title: 'many.asl', k: 3, threads: 1, lesson: null })`); await settled();
@@ -72,7 +83,7 @@ await part('why one class: more members on request, another text, an assembly te
   await run("document.querySelector('#class-rows .link-of').click()"); await settled();
   check((await marked())[0] === '14', 'a line is marked: ' + await marked());
   const other = MANY.replace('  a = &g11;\n', '');
-  await run(`workbench.bench.type(${JSON.stringify(other)})`); await browser.sleep(400); await settled();
+  await run(`workbench.bench.type(${JSON.stringify(other)})`); await settled();
   check(same(await rows(), native(other, '--all')[0]) && String(await marked()) === ',', 'another text is told anew: ' + (await rows())[0]);
   await open('#example=counter.asm&threads=2'); await key('X'); await settled();
   check(/is found in a source/.test(await textOf('#class-rows')), await textOf('#class-rows'));

@@ -1,15 +1,9 @@
 // What the toolchain makes of the source, as files: the C program, and the lists as one JSON document.
 import { readFileSync } from 'node:fs';
-import { asl, browser, check, key, open, part, run, settled, textOf } from './kit.mjs';
+import { asl, check, key, open, part, run, settled, textOf } from './kit.mjs';
 import { EXAMPLES } from './paths.mjs';
+import { BUTTON, savedWhen } from './runs.mjs';
 
-// What is saved, { name, text }, when something is pressed; null where nothing is.
-const savedWhen = press => run(`(async () => { const made = URL.createObjectURL, { click } = HTMLAnchorElement.prototype; let saved = null, name = '';
-  URL.createObjectURL = blob => made.call(URL, /octet/.test(blob.type) ? saved = blob : blob); HTMLAnchorElement.prototype.click = function () { name = this.download; };
-  ${press};
-  for (let i = 0; i < 40 && !saved; i++) await new Promise(done => setTimeout(done, 50));
-  URL.createObjectURL = made; HTMLAnchorElement.prototype.click = click; return saved && JSON.stringify({ name, text: await saved.text() }); })()`).then(JSON.parse);
-const BUTTON = words => `[...document.querySelectorAll('.files button')].find(e => e.textContent === '${words}').click()`;
 const closed = async () => { await run("document.getElementById('dialog').close()"); await settled(); };
 const bank = readFileSync(EXAMPLES + 'bank.asl', 'utf8');
 
@@ -48,7 +42,7 @@ await part('no C program of an assembly text, nor of a text that is refused', as
   check(!/\.c\b|\.json/.test(await textOf('.files')), 'no button: ' + await textOf('.files'));
   await run("document.getElementById('dialog').close()"); await settled();
   await open('#example=bank.asl&k=1&threads=2');
-  await run("workbench.bench.type('fn main(t) { x = ; }')"); await browser.sleep(400); await settled();
+  await run("workbench.bench.type('fn main(t) { x = ; }')"); await settled();
   await key('C'); await settled();
   check(/does not compile/.test(await textOf('#note')), await textOf('#note'));
 });

@@ -4,10 +4,8 @@ import { spawn } from 'node:child_process';
 import { mkdtempSync, rmSync, writeFileSync } from 'node:fs';
 import { tmpdir } from 'node:os';
 import { join } from 'node:path';
+import { comes, connect, end, sized, sleep } from './socket.mjs';
 
-// How many ms an answer may take.
-const PATIENCE = 60_000;
-const sleep = ms => new Promise(done => setTimeout(done, ms));
 const KEYS = { Tab: '\uE004', Enter: '\uE006', '\n': '\uE006', Escape: '\uE00C', End: '\uE010', Home: '\uE011', ArrowLeft: '\uE012',
   ArrowUp: '\uE013', ArrowRight: '\uE014', ArrowDown: '\uE015', Delete: '\uE017' };
 
@@ -23,22 +21,6 @@ async function addressOf(child) {
   });
 }
 
-async function connect(url, heard) {
-  const socket = new WebSocket(url + '/session'), waiting = new Map();
-  let last = 0;
-  await new Promise(done => { socket.onopen = done; });
-  socket.onmessage = message => {
-    const told = JSON.parse(message.data);
-    if (waiting.has(told.id)) { waiting.get(told.id)(told); waiting.delete(told.id); } else heard(told);
-  };
-  const send = (method, params, patience = PATIENCE) => new Promise((done, fail) => {
-    const id = ++last, late = setTimeout(() => { waiting.delete(id); fail(new Error('Firefox gives no answer to ' + method)); }, patience);
-    waiting.set(id, told => { clearTimeout(late); done(told); });
-    socket.send(JSON.stringify({ id, method, params }));
-  });
-  return { socket, send };
-}
-
 // A value that the page gave, told by BiDi piece by piece.
 function plain(value) {
   if (value.type === 'array') return value.value.map(plain);
@@ -51,7 +33,7 @@ export async function openFirefox(binary = process.env.FIREFOX || 'firefox-esr')
   const child = spawn(binary, ['--headless', '--no-remote', '--profile', profile, '--remote-debugging-port', '0'],
     { stdio: ['ignore', 'ignore', 'pipe'], env: { ...process.env, HOME: profile } });
   const errors = [], requests = [];
-  const { socket, send } = await connect(await addressOf(child), told => {
+  const { socket, send } = await connect(await addressOf(child) + '/session', 'Firefox', told => {
     if (told.method === 'log.entryAdded' && told.params.level === 'error') errors.push(told.params.text);
     if (told.method === 'network.beforeRequestSent') requests.push(told.params.request.url);
   });
@@ -66,19 +48,21 @@ export async function openFirefox(binary = process.env.FIREFOX || 'firefox-esr')
     return plain(result.result);
   };
   const frames = () => run(`new Promise(done => { requestAnimationFrame(() => requestAnimationFrame(() => setTimeout(done))); setTimeout(done, 2000); })`);
-  // Goes to a page, three times at most, until it answers the question whether it is there.
+  // Goes to a page, three times at most, each with more patience, until it answers the question whether it is there.
   const goTo = async (url, question) => {
-    for (let time = 0; time < 3; time++) {
+    for (const patience of [20_000, 40_000, 60_000]) {
       await send('browsingContext.navigate', { context, url, wait: 'none' }, 5_000).catch(() => {});
-      for (const late = performance.now() + 20_000; performance.now() < late; await sleep(50))
-        if (await run(question, 5_000).catch(() => false)) return true;
+      if (await comes(() => run(question, 15_000).catch(() => false), patience)) return true;
     }
     return false;
   };
   const press = (type, actions) => send('input.performActions', { context, actions: [{ type, id: type, actions }] });
   return {
     name: 'Firefox ' + capabilities.browserVersion, errors, requests, run, sleep, frames,
-    size: (width, height) => send('browsingContext.setViewport', { context, viewport: { width, height } }),
+    async size(width, height) {
+      await send('browsingContext.setViewport', { context, viewport: { width, height } });
+      await sized(run, width, height);
+    },
     media: async () => {},
     async insertText(text) {
       await press('key', [...text].flatMap(value => [{ type: 'keyDown', value }, { type: 'keyUp', value }]));
@@ -90,7 +74,7 @@ export async function openFirefox(binary = process.env.FIREFOX || 'firefox-esr')
     // An answer to a navigation may be lost, so no answer is waited for: the page itself is asked whether it is there.
     async open(url, ready) {
       if (!await goTo('about:blank', "location.href === 'about:blank'") || !await goTo(url, ready))
-        throw new Error('not ready: ' + url + ' ' + errors.join('; '));
+        throw new Error(`not ready: ${url.slice(0, 200)} ${errors.join('; ')}`);
     },
     async strike(key, shift = false) {
       const value = KEYS[key] || key, hold = type => (shift ? [{ type, value: '\uE008' }] : []);
@@ -105,6 +89,10 @@ export async function openFirefox(binary = process.env.FIREFOX || 'firefox-esr')
       const { result } = await send('browsingContext.captureScreenshot', { context });
       writeFileSync(path, Buffer.from(result.data, 'base64'));
     },
-    async close() { socket.close(); child.kill(); await sleep(500); rmSync(profile, { recursive: true, force: true, maxRetries: 5 }); },
+    async close() {
+      socket.close();
+      await end(child);
+      rmSync(profile, { recursive: true, force: true, maxRetries: 5, retryDelay: 200 });
+    },
   };
 }

@@ -2,10 +2,12 @@
 //   const look = await watch(browser);  await look(words)      answers in words what is not as it must be, or null
 import { openAsl } from '../module.mjs';
 import { READY } from './paths.mjs';
+import { comes } from './socket.mjs';
 
 // In the page: until nothing is asked of the toolchain any more, and all is drawn.
 const CALM = `(async () => { const frame = () => new Promise(done => { requestAnimationFrame(() => setTimeout(done)); setTimeout(done, 2000); });
-  for (let i = 0; i < 400 && (i < 1 || workbench.isBusy() || workbench.bench.typing && workbench.bench.text !== workbench.bench.builtText && !workbench.bench.refusal); i++) await frame();
+  const late = performance.now() + 60000;
+  for (let i = 0; performance.now() < late && (i < 1 || workbench.isBusy() || workbench.bench.typing && workbench.bench.text !== workbench.bench.builtText && !workbench.bench.refusal); i++) await frame();
   await frame(); })()`;
 // In the page: all that a person has made, how wide the page is, what undo can bring back, and the run.
 const SEEN = `(async () => { const { bench, tellView } = workbench, { lesson, ...moment } = bench.moment(), root = document.documentElement;
@@ -57,11 +59,13 @@ export async function watch(browser) {
     return same(now.moment, again.moment) && same(now.done, again.done) ? null
       : 'redo does not bring back what undo has left: ' + differing(now.moment, again.moment) + ` ${now.done} / ${again.done}`;
   }
-  async function reloaded(now) {
-    if (now.wanted || now.refused || now.moment.schedule.length > 20000) return null;
+  async function reloaded() {
     await browser.sleep(500);
+    // (a file that was opened may have come meanwhile)
+    const now = await seen();
+    if (now.wanted || now.refused || now.moment.schedule.length > 20000) return null;
     await browser.run('window.older = true, setTimeout(() => location.reload()), 1');
-    for (let i = 0; i < 200 && !await browser.run('!window.older && ' + READY).catch(() => false); i++) await browser.sleep(50);
+    await comes(() => browser.run('!window.older && ' + READY).catch(() => false));
     const again = await seen();
     return same(now.moment, again.moment) && same(now.done, again.done) ? null
       : 'a reload loses: ' + differing(now.moment, again.moment) + ` ${now.done} / ${again.done}`;
@@ -84,6 +88,6 @@ export async function watch(browser) {
     const wide = now.lecture && now.wide > 0
       ? `a lecture of ${now.width} by ${now.height} is ${now.wide} pixels too wide, by ${await browser.run(WIDE)}` : null;
     return await textLost(now) || field || wide || (now.run && replayed(asl, now.run))
-      || (turn === 'undo' ? await thereAndBack(now) : turn === 'reload' ? await reloaded(now) : null) || browser.errors[0] || null;
+      || (turn === 'undo' ? await thereAndBack(now) : turn === 'reload' ? await reloaded() : null) || browser.errors[0] || null;
   };
 }

@@ -1,12 +1,13 @@
 // Nothing that a person makes is lost: undo brings back texts, runs, threads and a lesson's progress, and a reload keeps them.
 import { readFileSync } from 'node:fs';
-import { at, browser, calm, check, key, open, part, run, settled, textOf } from './kit.mjs';
-import { EXAMPLES } from './paths.mjs';
+import { at, browser, calm, check, key, open, part, run, settled, textOf, until } from './kit.mjs';
+import { EXAMPLES, READY } from './paths.mjs';
+import { comes } from './socket.mjs';
 
 export const type = async text => {
   await run(`(() => { const t = document.getElementById('text'); t.focus(); t.value = ${JSON.stringify(text)};
     t.dispatchEvent(new Event('input')); t.blur(); })()`);
-  await browser.sleep(150); await calm();
+  await settled();
 };
 export const choose = async name => {
   await run(`(() => { const e = document.getElementById('example'); e.value = '${name}'; e.dispatchEvent(new Event('change')); e.blur(); })()`);
@@ -24,7 +25,7 @@ await part('undo brings back a text, a run, threads and a lesson, and redo what 
   await then(() => type(COUNTER.replace('x + one', 'one + x')));
   await choose('bank.asl');
   await then(async () => { for (const name of ['n', 't', 'k']) await key(name); });
-  await then(() => run("location.hash = '#lesson=1'"));
+  await then(async () => { await run("location.hash = '#lesson=1'"); await until("document.getElementById('lesson-title').textContent.startsWith('Lesson 1:')"); });
   for (const name of ['0', '0', '1', '1']) await key(name);
   moments.push(await run(MADE));
   check(JSON.parse(moments.at(-1)).lesson.done === 2, 'the lesson has begun: ' + moments.at(-1));
@@ -43,8 +44,8 @@ await part('fewer threads drop no step for good, and a text that is typed is one
   await open('#example=counter.asl&k=3&threads=3&steps=001122&at=6');
   await key('T'); check(String(await at()) === '4,4', 'fewer threads');
   await key('u'); check(String(await at()) === '6,6' && await run('workbench.bench.threads') === 3, 'the steps are there again');
-  await key('e'); await browser.typed('abc'); await browser.sleep(150); await browser.typed('de'); await key('Escape');
-  await browser.sleep(150); await calm();
+  await key('e'); await browser.typed('abc'); await settled(); await browser.typed('de'); await key('Escape');
+  await settled();
   check(await run("workbench.bench.refusal !== null && /abcde/.test(workbench.bench.text)"), 'a text is typed that does not compile');
   await key('u');
   check(await run('workbench.bench.text') === COUNTER && await run('workbench.bench.refusal === null'), 'one undo brings the text back');
@@ -52,14 +53,18 @@ await part('fewer threads drop no step for good, and a text that is typed is one
   await key('U'); check(/abcde/.test(await run('workbench.bench.text')), 'redo brings what was typed');
 });
 
-// Opens the address that the page has written, as a reload does; the store of the tab is kept.
+// The page writes its address 250 ms after it was drawn; that takes a while where a text is packed, and ends with what was left behind for a
+// reload being forgotten.
+const LEFT = "sessionStorage.getItem('asl-workbench-left')", leave = "sessionStorage.setItem('asl-workbench-left', '{}')";
+async function addressed() {
+  await run(`${leave}, workbench.bench.changed('position')`);
+  await until('!' + LEFT, 'the address is written');
+}
+// Opens the address that the page has written by itself, as a reload does; the store of the tab is kept. (Where it was written already,
+// nothing is forgotten any more.)
 async function reload() {
-  for (let i = 0, before = ''; i < 30; i++) {
-    const now = await run('location.hash');
-    if (now === before && i > 3) break;
-    before = now;
-    await browser.sleep(120);
-  }
+  await run(`${leave}, new Promise(done => setTimeout(done, 300))`);
+  await comes(() => run('!' + LEFT), 5000);
   await open(await run('location.hash'));
 }
 
@@ -73,8 +78,47 @@ await part('a reload keeps text, run, threads, name, notes and lesson', async ()
   await reload();
   check(await run(MADE) === before, 'after a reload: ' + (await run(MADE)).slice(-120));
   check(await run('JSON.stringify(workbench.bench.notes)') === '{"7":"opens once"}' && /opens once/.test(await textOf('#paint')), 'the note is there');
-  for (let i = 0; i < 30 && !await textOf('#kept'); i++) await browser.sleep(100);
-  check(await textOf('#lesson-title') !== '' && /kept in the address/.test(await textOf('#kept')), 'a line says where it is kept: ' + await textOf('#kept'));
+  check(await textOf('#lesson-title') !== '', 'the lesson is there');
+  await until(async () => /kept in the address/.test(await textOf('#kept')), async () => 'a line says where it is kept: ' + await textOf('#kept'));
+});
+
+// Loads the page anew at once, with what the browser keeps of it.
+async function reloadAtOnce() {
+  await run('window.isOld = true');
+  await run("setTimeout(() => location.reload()); 1");
+  await until(`!window.isOld && ${READY}`, 'the page is loaded anew');
+  await calm();
+}
+await part('a reload right after a step, a text or a choice loses nothing', async () => {
+  await open('#example=bank.asl&k=0&threads=2'); await addressed();
+  for (const name of ['0', '0', '0', '1', 'ArrowLeft']) await browser.strike(name);
+  await calm();
+  const before = await run(MADE);
+  await reloadAtOnce();
+  check(/"schedule":\[0,0,0,1\],"position":3/.test(before) && await run(MADE) === before, `${before.slice(-80)} / ${(await run(MADE)).slice(-80)}`);
+  await open('#lesson=2'); await addressed();
+  for (const name of '000001') await browser.strike(name);
+  await calm();
+  const inLesson = await run(MADE);
+  await reloadAtOnce();
+  check(/"done":1/.test(inLesson) && await run(MADE) === inLesson, `${inLesson.slice(-80)} / ${(await run(MADE)).slice(-80)}`);
+  check(await run("document.querySelectorAll('#s-lesson li.done').length") === 1, 'the lesson goes on');
+  await type(COUNTER.replace('x + one', 'one + x'));
+  await reloadAtOnce();
+  check(/one \+ x/.test(await run('workbench.bench.text')), 'a text: ' + await run('workbench.bench.text'));
+  await addressed();
+  await open('#example=bank.asl&k=0&threads=2');
+  check(String(await at()) === '0,0', 'but a link is opened as it says: ' + await at());
+});
+
+await part('what is left behind while an older address is packed is not forgotten', async () => {
+  await open('#example=counter.asl&k=3&threads=2'); await addressed();
+  await run(`(() => { const Stream = CompressionStream;
+    window.CompressionStream = class extends Stream { constructor(...words) { super(...words); dispatchEvent(new Event('pagehide')); } }; })()`);
+  await type(COUNTER.replace('x + one', 'one + x'));
+  await until("location.hash.startsWith('#asl=')", () => run('location.hash'));
+  const left = await run(LEFT);
+  check(/one \+ x/.test(left), 'what is left: ' + left);
 });
 
 await part('what is too long for the address is kept by the browser, and a line says so', async () => {
@@ -86,8 +130,7 @@ await part('what is too long for the address is kept by the browser, and a line 
   await reload();
   check(/^#kept=\w+$/.test(await run('location.hash')), 'the address names it: ' + (await run('location.hash')).slice(0, 40));
   check(await run('workbench.bench.text') === text, 'the text is there');
-  for (let i = 0; i < 30 && !await textOf('#kept'); i++) await browser.sleep(100);
-  check(/by the browser/.test(await textOf('#kept')), 'a line says so: ' + await textOf('#kept'));
+  await until(async () => /by the browser/.test(await textOf('#kept')), async () => 'a line says so: ' + await textOf('#kept'));
 });
 
 await part('New, a name, and notes by keys; files get the name', async () => {

@@ -2,7 +2,8 @@
 import { mkdtempSync, writeFileSync } from 'node:fs';
 import { tmpdir } from 'node:os';
 import { join } from 'node:path';
-import { browser, calm, check, key, open, part, PASTE, run, settled, textOf } from './kit.mjs';
+import { browser, calm, check, key, open, part, PASTE, run, settled, textOf, until } from './kit.mjs';
+import { savedBy } from './runs.mjs';
 
 const load = async (text, threads, schedule) => {
   await run(`workbench.bench.load({ text: ${JSON.stringify(text)}, kind: 'asl', title: 'long.asl', k: 1, threads: ${threads}, schedule: ${schedule}, position: 1e9 })`);
@@ -54,9 +55,10 @@ await part('20,000 lines are pasted: what is seen is painted, the page stays fre
   check(await run('workbench.bench.refusal === null && workbench.bench.program.code.length') > 19000, 'it compiles: ' + await textOf('#complaint'));
   check((await rows()).every(n => n > 20 && n < 400), 'rows that are drawn: ' + await rows());
   for (const line of [10000, 19990]) {
-    await run(`document.getElementById('editor').scrollTop = ${line} * document.querySelector('#numbers .row').offsetHeight`); await browser.sleep(50); await calm();
-    const numbers = await run("[...document.querySelectorAll('#numbers .row')].map(row => Number(row.textContent))");
-    check(numbers.includes(line), `line ${line} is drawn: ${numbers[0]} to ${numbers.at(-1)}`);
+    await run(`document.getElementById('editor').scrollTop = ${line} * document.querySelector('#numbers .row').offsetHeight`); 
+    const numbers = () => run("[...document.querySelectorAll('#numbers .row')].map(row => Number(row.textContent))");
+    await until(async () => (await numbers()).includes(line), async () => `line ${line} is drawn: ${(await numbers())[0]} to ${(await numbers()).at(-1)}`);
+    await calm();
     const wrong = await run(`(() => { const top = e => Math.round(e.getBoundingClientRect().top), n = [...document.querySelectorAll('#numbers .row')].findIndex(row => row.textContent === '${line}');
       return ['paint', 'gutter', 'instructions'].filter(id => top(document.getElementById(id).children[n]) !== top(document.querySelectorAll('#numbers .row')[n])); })()`);
     check(!wrong.length, 'the columns stand beside one another: ' + wrong);
@@ -73,14 +75,9 @@ await part('pictures of the lock tree and of the heap are SVGs that stand alone,
   await open('#example=walk.asl&k=3&threads=2&steps=000000000111&at=12');
   for (const name of ['d', 's']) await key(name);
   await settled();
-  const saved = words => run(`(async () => { const made = URL.createObjectURL, { click } = HTMLAnchorElement.prototype; let saved;
-    URL.createObjectURL = blob => made.call(URL, /octet/.test(blob.type) ? saved = blob : blob); HTMLAnchorElement.prototype.click = () => {};
-    [...document.querySelectorAll('.files button')].find(e => e.textContent === '${words}').click();
-    await new Promise(done => setTimeout(done, 300));
-    URL.createObjectURL = made; HTMLAnchorElement.prototype.click = click; return saved.text(); })()`);
   const folder = mkdtempSync(join(tmpdir(), 'workbench-'));
   for (const [name, box, wanted] of [['walk-locks.svg', '#locks', ['root', 'IX?', 'X?', 'S']], ['walk-heap.svg', '#heap', ['head', 'T0', 'class']]]) {
-    const text = await saved('Save ' + name), shown = await run(`document.querySelector('${box}').innerText.split(/\\s+/).filter(Boolean).sort().join(' ')`);
+    const text = await savedBy('Save ' + name), shown = await run(`document.querySelector('${box}').innerText.split(/\\s+/).filter(Boolean).sort().join(' ')`);
     check(!/var\(|style=|<script|href|class=/.test(text), name + ': nothing in it needs the page');
     const words = await run(`[...new DOMParser().parseFromString(${JSON.stringify(text)}, 'image/svg+xml').querySelectorAll('text')].map(e => e.textContent).sort().join(' ')`);
     check(words === shown && wanted.every(word => words.split(' ').includes(word)), `${name}: ${words} / ${shown}`);

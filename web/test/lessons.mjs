@@ -31,7 +31,11 @@ let pressed = 0;
 async function press(word, right) {
   const [, name, times = 1] = /^(.+?)(?:\*(\d+))?$/.exec(word), focus = FOCUS[name] || /^list\d+$/.test(name) && `[data-list="${name.slice(4)}"]`;
   if (focus) {
-    if (name === 'right') await run(`document.querySelectorAll('.choices button').forEach(b => { if (b.textContent === ${JSON.stringify(right)}) b.dataset.right = 1; })`);
+    if (name === 'right') {
+      const shown = right.replaceAll('`', ''); // (what stands between backticks is shown as code)
+      const found = await run(`[...document.querySelectorAll('.choices button')].filter(b => b.textContent === ${JSON.stringify(shown)}).map(b => { b.dataset.right = 1; }).length`);
+      check(found === 1, `${found} choices read ${shown}`);
+    }
     await run("document.querySelector('header button').focus()"); // (Firefox without a window loses its keys where Tab goes past the page's end)
     check(await tabTo(focus, 160) >= 0, `${focus} is reached`);
     if (!name.startsWith('list')) { await key('Enter'); await settled(); }

@@ -1,8 +1,9 @@
 // Files and links that come in: several at once, in either order, both in one; and what is told of those that are refused.
 import { readFileSync } from 'node:fs';
 import { deflateRawSync } from 'node:zlib';
-import { asl, at, browser, calm, check, key, open, part, PASTE, run, settled, textOf } from './kit.mjs';
+import { asl, at, calm, check, key, open, part, PASTE, run, settled, textOf } from './kit.mjs';
 import { EXAMPLES } from './paths.mjs';
+import { savedBy } from './runs.mjs';
 
 const COUNTER = readFileSync(EXAMPLES + 'counter.asl', 'utf8');
 const MINE = COUNTER.replace('x + one', 'one + x').replaceAll('count', 'total');
@@ -45,11 +46,7 @@ await part('source and run in one file, which gives the same again', async () =>
   await run("workbench.bench.setNotes({ 2: 'who comes first', 21: 'the section' })"); await calm();
   const said = `JSON.stringify((({ lesson, ...rest }) => ({ ...rest, lesson: lesson && [lesson.number, lesson.done] }))(workbench.bench.moment()))`, before = await run(said);
   await key('s');
-  const file = await run(`(async () => { const made = URL.createObjectURL, { click } = HTMLAnchorElement.prototype; let saved;
-    URL.createObjectURL = blob => made.call(URL, /octet/.test(blob.type) ? saved = blob : blob); HTMLAnchorElement.prototype.click = () => {};
-    [...document.querySelectorAll('.files button')].find(e => e.textContent === 'Save bank.workbench').click();
-    await new Promise(done => setTimeout(done, 300));
-    URL.createObjectURL = made; HTMLAnchorElement.prototype.click = click; return saved.text(); })()`);
+  const file = await savedBy('Save bank.workbench');
   check(/^workbench 1\ntitle bank\.asl\nkind asl\nk 0\nthreads 2\nsteps 0 1 0\*2\nat 3\nnote 3 who comes first\nnote 22 the section\nlesson lesson=3&done=0\S*\ntext\nglobal ann;/.test(file), 'the file: ' + file.slice(0, 160));
   await open();
   await opened(['bank.workbench', file]);
@@ -85,7 +82,6 @@ await part('a link is pasted: into the field, and onto the page; what cannot be 
     await paste(words);
     check(reason.test(await told()), `${words.slice(0, 30)}: ${await told()}`);
     check(await seen() === 'asl,theirs.asl,1,3,0012', 'nothing is lost by it');
-    await browser.sleep(100);
     await run("document.getElementById('trouble-close').click()"); await calm();
   }
   await run(`document.body.dispatchEvent((${PASTE})('x#example=bank.asl&k=2&threads=4'))`); await settled();
@@ -103,7 +99,7 @@ await part('refused files are told in plain words, and stay; the bar does not sp
     check(words.includes(name + ': ') && reason.test(words) && !/\w\(\d+\)/.test(words), `${name}: ${words}`);
     check(String(await at()) === '4,4', name + ': the run stays');
   }
-  await browser.sleep(3800);
+  await run('new Promise(done => setTimeout(done, 3800))'); // (a note goes by itself after 3,500 ms)
   check((await told()).includes('cut.img'), 'it stays until it is closed');
   await run("document.getElementById('trouble-close').click()"); await calm();
   check(await told() === '', 'closed');

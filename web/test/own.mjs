@@ -9,7 +9,7 @@ const shown = () => run("[...document.querySelectorAll('#own-lists textarea')].m
 export const writeList = async (section, list) => {
   await run(`(() => { const t = document.querySelector('[data-list="${section}"]'); t.focus(); t.value = ${JSON.stringify(list)};
     t.dispatchEvent(new Event('input')); t.blur(); })()`);
-  await browser.sleep(250); await calm(); await settled();
+  await settled();
 };
 const verdict = () => textOf('#own-verdict');
 // What the native program says of a source and lists.
@@ -48,11 +48,11 @@ await part('a list that is half typed stays where it is, and what is wrong is to
   await key('v'); await settled();
   const seen = () => run("(({ top, bottom, left }) => [Math.round(left), Math.round(top), bottom <= innerHeight])(document.activeElement.getBoundingClientRect())");
   const [left, top] = await seen();
-  await browser.typed('expr r1 re'); await browser.sleep(250); await settled();
+  await browser.typed('expr r1 re'); await settled();
   const [nowLeft, nowTop, inSight] = await seen();
   check(nowLeft === left && Math.abs(nowTop - top) < 60 && inSight, `from ${left}, ${top} to ${nowLeft}, ${nowTop}`);
   check(/✕ refused: List of section 0, line 2, expr r1 re/.test(await verdict()), await verdict());
-  await browser.typed('ad'); await browser.sleep(250); await settled();
+  await browser.typed('ad'); await settled();
   check(/✓ enough/.test(await verdict()), 'and then it is judged: ' + await verdict());
   await browser.size(1400, 1000);
 });
@@ -88,4 +88,21 @@ await part('a run goes on under lists by hand, to the fault of the native progra
   await open('#example=bank.asl');
   await run(`workbench.loadFile('own.run', new Uint8Array(${JSON.stringify(file)}))`); await settled();
   check(await run("workbench.bench.kind === 'asl' && workbench.bench.title === 'counter.asl' && workbench.bench.own[0] === 'expr r1 read\\n'"), 'a run file has them: ' + await run('workbench.bench.title + JSON.stringify(workbench.bench.own)'));
+});
+
+await part('the command lines of Share, under lists by hand, make the run that is shown', async () => {
+  const lines = () => run("[...document.querySelectorAll('#dialog .share')].find(e => /command line/.test(e.textContent)).querySelector('pre').textContent.split('\\n')");
+  await open('#example=counter.asl&k=3&threads=2&steps=000000&at=6&own=i1ZKrSgoUigyVChKTUxRigUA');
+  check(/fault/.test(await textOf('#say')), 'a fault: ' + await textOf('#say'));
+  await key('s'); await settled();
+  const [step, view, more] = await lines(), [, words] = /^asl (step .*) < counter\.img > counter\.run$/.exec(step) || [];
+  check(words && /^asl debug goto 6 view < counter\.run$/.test(view) && !more, `without the source: ${step}; ${view}; ${more}`);
+  check(/These lists are by hand: save counter\.img/.test(await textOf('#dialog')), await textOf('#dialog .share:nth-child(2) b'));
+  const image = Buffer.from(await run('btoa(String.fromCharCode(...workbench.bench.image))'), 'base64');
+  const said = words ? asl(['log'], asl(words.split(' '), image)).toString().trim().split('\n').at(-1) : '';
+  check(/^5 0 fault Unprotected 0\.0 write$/.test(said), 'the native program ends as the page: ' + said);
+  await run("document.getElementById('dialog').close()");
+  await open('#example=counter.asl&k=1&threads=2&steps=0011&at=4'); await key('s'); await settled();
+  check((await lines())[0] === 'asl compile --k 1 < counter.asl > counter.img', 'under the inferred lists the source is compiled: ' + (await lines())[0]);
+  await run("document.getElementById('dialog').close()");
 });

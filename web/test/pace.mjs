@@ -2,9 +2,10 @@
 //   node --experimental-websocket web/test/pace.mjs [--firefox] [THREADS]        the least and the median of fifteen, in milliseconds
 // Where the browser tells it, what is measured is the processor's time of the page's thread, and how much of it are the script, the
 // styles, the layout, and all the rest, which is mostly painting. Of a step the toolchain may take at most 4 ms, and all at most 16 ms,
-// else it fails; also while the order of two events is told.
+// else it fails; also while the order of two events is told. The least of the fifteen is judged, so that what else the machine does takes
+// no part in it; where the browser does not tell the processor's time, only the toolchain is judged.
 import { loadavg } from 'node:os';
-import { browser, open, run } from './kit.mjs';
+import { browser, calm, open, run } from './kit.mjs';
 
 const THREADS = Number(process.argv.slice(2).find(word => /^\d+$/.test(word)) || 8);
 const SOURCE = 'global count; fn add(p, v) { atomic { x = *p; y = x + v; *p = y; } return y; } '
@@ -44,6 +45,12 @@ async function press(what, times = TIMES) {
     processor: ofProcessor ? Math.min(...of('processor')) : 0 };
 }
 
+// Until nothing more comes of what was done: what the page does after a pause, so many milliseconds of its own, is over.
+async function rest(pause) {
+  await run(`new Promise(done => setTimeout(done, ${pause}))`);
+  await calm();
+}
+
 await browser.size(1400, 1000);
 await open();
 console.log(`${browser.name}, ${THREADS} threads, load ${loadavg()[0].toFixed(1)}`);
@@ -55,13 +62,13 @@ for (const count of COUNTS) {
     document.getElementById('most').value = ${count}; document.getElementById('robin').click();
     do await new Promise(d => requestAnimationFrame(() => setTimeout(d))); while (bench.run.length === length || bench.going);
     return performance.now() - t; })()`);
-  await browser.sleep(1500);
+  await rest(1500);
   const step = await press(i => key(String(i % Math.min(THREADS, 8))));
   slow ||= step.toolchain > MOST_TOOLCHAIN || step.processor > MOST;
   console.log(`${await run('workbench.bench.run.length')} events made in ${made.toFixed(0)}`);
   console.log('    step', step.words);
   await run(`workbench.bench.go(Infinity).then(() => ${key("'q'")})`);
-  await browser.sleep(500);
+  await rest(500);
   const told = await press(i => key(String(i % Math.min(THREADS, 8))));
   slow ||= told.processor > MOST;
   console.log('    step while the order of two events is told', told.words);

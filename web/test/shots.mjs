@@ -67,6 +67,8 @@ const isWanted = ({ name, place, look }) => (wanted.length ? wanted.some(word =>
   : look === 'light' || SEEN.includes(place) && !look.startsWith('readme') && !PROJECTORS.slice(0, 3).includes(look) && look !== 'slide');
 
 const CALM = '(async () => { while (workbench.isBusy()) await new Promise(done => setTimeout(done, 10)); })()';
+// What the page does after a pause, as to ask for the blocked steps at each k, is over.
+const REST = `new Promise(done => setTimeout(done, 700)).then(() => ${CALM})`;
 
 async function take(browser, { name, place, look }) {
   const { url = '', keys = [], run, click } = PLACES[place], { w, h, scale = 1, dark, vision, print, whole } = LOOKS[look];
@@ -77,7 +79,7 @@ async function take(browser, { name, place, look }) {
   for (const key of keys) { await browser.key(key); await browser.run(CALM); }
   if (run) await browser.run(run);
   if (click) await browser.run(`document.querySelector('${click}').click()`);
-  await browser.sleep(700); // the blocked steps at each k are asked when nothing has changed for a while
+  await browser.run(REST);
   await browser.frames();
   if (print) { await browser.media(false, 'print'); await browser.run("dispatchEvent(new Event('beforeprint'))"); await browser.sleep(200); }
   await browser.picture(`${folder}/${name}.png`, Boolean(whole));

@@ -1,6 +1,6 @@
 // What the text does not say: the page shows what the native `lists` warns of, beside the lines and below the program.
 import { readFileSync, readdirSync } from 'node:fs';
-import { asl, browser, check, key, open, part, run, settled, textOf } from './kit.mjs';
+import { asl, check, key, open, part, run, settled, textOf } from './kit.mjs';
 import { EXAMPLES } from './paths.mjs';
 
 const TEXT = `global head;
@@ -50,10 +50,10 @@ await part('warnings: a click marks the line, another text takes them away, anot
   check(await textOf('#numbers .pointed') === '3', 'the line is marked: ' + await textOf('#numbers .pointed'));
   await key('k'); await settled();
   check(String(await listed()) === String(native(TEXT)), 'at another k: ' + await listed());
-  await run(`workbench.bench.type(${JSON.stringify(TEXT.replace('return t;', 'return t'))})`); await browser.sleep(400); await settled();
+  await run(`workbench.bench.type(${JSON.stringify(TEXT.replace('return t;', 'return t'))})`); await settled();
   check(await run("document.getElementById('warnings').hidden") && String(await beside()) === '', 'of a text that is refused there are none');
   const other = '\n' + TEXT;
-  await run(`workbench.bench.type(${JSON.stringify(other)})`); await browser.sleep(400); await settled(); await settled();
+  await run(`workbench.bench.type(${JSON.stringify(other)})`); await settled(); await settled();
   check(String(await listed()) === String(native(other)) && lines(native(other)) === '4,13', 'a line further down: ' + await listed());
   await key('u'); await settled(); await settled();
   check(String(await listed()) === String(native(TEXT)), 'after undo: ' + await listed());

@@ -1,6 +1,6 @@
 // What the page says in words of its own: no advice for a command line, each clash of a blocked try, and the end of all threads.
 import { readFileSync } from 'node:fs';
-import { asl, browser, calm, check, key, open, part, run, settled, textOf } from './kit.mjs';
+import { asl, calm, check, key, open, part, run, settled, textOf, until } from './kit.mjs';
 import { ROOT } from './paths.mjs';
 
 await part('a blocked try names each node where there is a clash, the innermost first', async () => {
@@ -21,7 +21,7 @@ await part('no advice for a command line: reasons have a button for all, and hin
   const text = readFileSync(ROOT + 'tests/explanations/many.asl', 'utf8');
   await open();
   await run(`workbench.bench.load({ text: ${JSON.stringify(text)}, kind: 'asl', title: 'many.asl', k: 3, threads: 2 })`); await settled();
-  await browser.sleep(500);
+  await until(`document.querySelector('[data-list="1"] [data-keep^=why]')`); await calm();
   await run(`document.querySelector('[data-list="1"] [data-keep^=why]').click()`); await settled();
   const few = await textOf('#dialog-body .why');
   check(/contains \d+ more locks?\n/.test(few) && !/--/.test(few), 'few of them: ' + few.slice(0, 300));
@@ -29,5 +29,4 @@ await part('no advice for a command line: reasons have a button for all, and hin
   const all = await textOf('#dialog-body .why');
   check(!/contains \d+ more/.test(all) && all.length > few.length && asl(['explain', '--all', '--k', 3], text).toString().includes(all), 'all of them: ' + all.length);
   await run("document.getElementById('dialog').close()"); await calm();
-  await browser.sleep(50);
 });

@@ -3,7 +3,7 @@
 import { byId, count, el, renew, withCode } from '../dom.js';
 import { copyText, download } from '../files.js';
 import { note, openDialog } from '../page.js';
-import { LESSONS, chosen, endLesson, isOfPage, lesson } from '../lessons.js';
+import { chosen, differsAt, endLesson, isKnown, isOfPage, lesson, triedHere } from '../lessons.js';
 import { answerText, judgeAnswer, readAnswer } from '../handin.js';
 import { packText } from '../pack.js';
 import { showOwn } from './own.js';
@@ -11,18 +11,20 @@ import { showOwn } from './own.js';
 const answers = [], MOST = 200;
 const state = { by: '', open: 0 };
 const address = fragment => location.href.replace(/#.*$/, '') + fragment;
-export const lessonLink = async read => address('#lesson-text=' + await packText(read.file));
+export const lessonLink = async read => address('#lesson-text=' + await packText(read.bare));
 const safe = words => words.replace(/[^\w-]+/g, '-').replace(/^-|-$/g, '').slice(0, 60);
 
 // ---- handing in
 
-export function openHandIn() {
+export function openHandIn(bench) {
   if (!chosen()) return note('No lesson is open: j opens one.');
-  const { number, records } = lesson, { title } = chosen(); // (as it is now)
+  const { number, done } = lesson, { title } = chosen(), tried = triedHere(bench); // (as it is now)
+  const records = tried ? [...lesson.records.slice(0, done), tried] : lesson.records;
   const text = () => answerText(number, records, state.by.replace(/[\p{Cc}\p{Cf}]+/gu, ' ').trim());
   const name = el('input', { id: 'handed-by', maxlength: 80, oninput: event => { state.by = event.currentTarget.value; } });
   openDialog('Hand in', el('p', {}, `“${title}”: ${lesson.done} of ${count(chosen().steps.length, 'step')} done. `
-    + 'What is handed in is each step’s run, as it was when the step was done; whoever opens it sees it made again and judged.'),
+    + 'What is handed in is each step’s run, as it was when the step was done; whoever opens it sees it made again and judged.'
+    + (tried ? ` Of step ${done + 1} what is there now is handed in, too, as “tried, not done”.` : '')),
   el('p', {}, el('label', {}, 'your name, if it is asked for ', name)),
   el('p', { class: 'files' },
     el('button', { id: 'hand-link', onclick: async () => {
@@ -62,16 +64,21 @@ function look(bench, record) {
 }
 export function closeAnswers(bench) { answers.length = 0; bench.changed('lesson'); }
 
-// Whether its lesson is one of this page, or one that was opened here.
-const isKnown = ({ number, read }) => isOfPage(number) || LESSONS.some(({ file }) => file === read.file);
 const doneOf = ({ told }) => (told ? told.filter(({ done }) => done).length : 0);
 function summary(bench, answer, i) {
   const { told, by, from, title, read } = answer, all = read.steps.length;
   return el('li', {}, el('button', { class: 'link', 'data-keep': 'answer-of-' + i, 'aria-pressed': String(i === state.open),
     onclick: () => { state.open = i; bench.changed('lesson'); } }, by || from || `answer ${i + 1}`), ` ${title}: `,
-  !told ? 'judged ..' : doneOf(answer) === all ? el('b', { class: 'is-free' }, `✓ all ${all} steps`)
-    : el('b', { class: 'is-fault' }, `✕ ${doneOf(answer)} of ${all} steps`),
-  isKnown(answer) ? null : el('span', { class: 'soft' }, ' by the lesson that came with it'));
+  !told ? 'judged ..' : verdictOf(answer, doneOf(answer), all));
+}
+// A tick is given only by a lesson that is known here: with another one anything may be done.
+function verdictOf(answer, done, all) {
+  const known = isKnown(answer), line = known ? 0 : differsAt(answer.read), tried = answer.records.some(record => record?.tried);
+  const steps = done === all ? `all ${all} steps` : `${done} of ${all} steps${tried ? ' done, one tried' : ''}`;
+  if (line) return [el('b', { class: 'is-fault' }, `not your lesson: its text differs from the one that is open here (line ${line})`),
+    `; ${steps} of its own`];
+  return [done < all ? el('b', { class: 'is-fault' }, '✕ ' + steps) : known ? el('b', { class: 'is-free' }, '✓ ' + steps) : steps,
+    known ? null : el('span', { class: 'soft' }, ' by the lesson that came with it')];
 }
 
 function stepOf(bench, answer, step, i) {
@@ -84,7 +91,9 @@ function stepOf(bench, answer, step, i) {
 
 const origin = answer => (isOfPage(answer.number) ? 'Judged by lesson ' + (answer.number + 1) + ' of this page.'
   : isKnown(answer) ? 'Judged by the lesson that was opened here.'
-    : 'Judged by the lesson that came with the answer: open your own file first, and this line says whether it is the same.');
+    : 'Judged by the lesson that came with the answer'
+      + (differsAt(answer.read) ? '. It is another one: its ticks say nothing of yours.'
+        : ': open your own file first, and this line says whether it is the same.'));
 
 export function drawAnswers(bench) {
   const box = byId('s-answer'), answer = answers[state.open] || answers.at(-1);

@@ -3,7 +3,7 @@
 
 import { byId, el, renew, setText, withCode } from '../dom.js';
 import { unlessDropped } from '../aside.js';
-import { classRows, lineOf, piecesOf } from '../classes.js';
+import { classRows, firstJoined, lineOf, piecesOf } from '../classes.js';
 import { pointNowhere, pointTo } from '../pointed.js';
 import { note } from '../page.js';
 import { listAt } from '../program.js';
@@ -39,20 +39,23 @@ export function closeClass(bench) {
   return true;
 }
 
-// Of the event that is shown the class where it is blocked, else the first that its section locks; else the first that any section locks.
+// Of the event that is shown the class where it is blocked, else the first that its section locks; nothing where there is none.
 function classHere(bench) {
-  const { program, last, position, run } = bench, classOf = list => list?.find(lock => lock.kind === 'class')?.class;
+  const { program, last, position, run } = bench;
   const clash = last?.reply === 'blocked' && run.request(position - 1, last.thread).clashes.find(({ node }) => node.startsWith('class '));
   if (clash) return Number(clash.node.slice(6));
   const section = last && sectionAt(bench.stretches, last.thread, position), pc = section ? section.pc : last ? last.pc : -1;
-  return classOf(pc >= 0 && program.lists[listAt(program, pc)] || []) ?? classOf(program.lists.flat()) ?? 0;
+  return (pc >= 0 && program.lists[listAt(program, pc)] || []).find(lock => lock.kind === 'class')?.class;
 }
-// That class; behind it the next one, and so on.
-export function nextClass(bench) {
+// That class, or the first that joins something; behind it the next one, and so on.
+export async function nextClass(bench) {
   const count = bench.program?.classes || 0;
   if (!count) return note('The program has no class.');
-  return openClass(bench, panel.number >= 0 ? (panel.number + 1) % count : classHere(bench));
+  return openClass(bench, panel.number >= 0 ? (panel.number + 1) % count
+    : classHere(bench) ?? await unlessDropped(firstJoined(bench)) ?? 0);
 }
+const alone = row => (/ line \d+/.test(row) ? 'All its objects are made at this line; there is nothing to join.'
+  : 'It has this one member; there is nothing to join.');
 
 function mark(bench, place, line) {
   panel.at = place;
@@ -80,7 +83,7 @@ function content(bench) {
   if (!told) return 'asked ..';
   if (told.words) return el('p', {}, withCode(told.words));
   return [el('ol', {}, told.rows.map((row, i) => rowOf(bench, row, i))),
-    told.rows.length < 2 ? el('p', { class: 'soft' }, 'The toolchain tells no chain of this class.') : null,
+    told.rows.length < 2 ? el('p', { class: 'soft' }, alone(told.rows[0])) : null,
     told.more && !all ? el('button', { 'data-keep': 'class-all', onclick: () => openClass(bench, number, true) },
       'Show all members') : null];
 }

@@ -7,6 +7,7 @@ import { readLesson } from '../lessontext.js';
 import { checkLesson } from '../lessoncheck.js';
 import { untilDone } from '../aside.js';
 import { showOwn } from './own.js';
+import { note, openDialog } from '../page.js';
 import { packText, unpackText } from '../pack.js';
 
 const open = opening => ({ text: opening.text, kind: opening.kind, title: opening.title, k: opening.k, threads: opening.threads,
@@ -24,8 +25,10 @@ export async function openLesson(bench, number, examples, { number: _, done = 0,
 
 // Makes a lesson known; answers its number, or what is wrong with it.
 async function learn(text) {
-  const { lesson: read, refusals } = readLesson(text, examplesOf()), wrong = refusals || await untilDone(() => checkLesson(read));
-  return wrong.length ? { wrong } : { number: addLesson({ ...read, packed: await packText(text) }), wrong };
+  const { lesson: read, refusals = [], partly = read } = readLesson(text, examplesOf());
+  const more = await untilDone(() => checkLesson(partly)), told = new Set(refusals.map(({ line }) => line));
+  const wrong = [...refusals, ...more.filter(({ line }) => !told.has(line))].sort((a, b) => a.line - b.line);
+  return wrong.length ? { wrong } : { number: addLesson({ ...read, packed: await packText(read.bare) }), wrong };
 }
 // A lesson of a file or a link: opened, or refused with the lines that are wrong.
 export async function openLessonText(bench, text) {
@@ -50,6 +53,15 @@ const asRow = row => row.trim().slice(0, 120).replace(/\p{Cf}/gu, '\uFFFD');
 export const refusalList = wrong => el('ol', { class: 'refusals' }, wrong.map(({ line, words, row }) => el('li', {},
   el('b', {}, `Line ${line}: `), withCode(words), '.', row.trim() ? el('pre', {}, asRow(row)) : null)));
 
+// What files are refused for, each { name, wrong }, among so many.
+export function tellRefused(refused, all) {
+  const others = all - refused.length, one = refused.length === 1;
+  openDialog(one ? `${refused[0].name} is refused` : `${refused.length} files are refused`,
+    el('p', {}, others < 1 ? 'Nothing was opened.' : others === 1 ? 'The other file was opened.' : `The other ${others} files were opened.`,
+      ' What is wrong:'),
+    refused.map(({ name, wrong }) => [one ? null : el('h3', {}, name), refusalList(wrong.slice(0, 100))]));
+}
+
 export function closeLesson(bench) {
   bench.keep();
   endLesson();
@@ -62,13 +74,25 @@ function hintOf(bench, step) {
     onclick: () => { lesson.hint = !lesson.hint; drawLesson(bench); } }, 'a hint'), lesson.hint && el('em', {}, ' ', withCode(step.hint))];
 }
 
+// By key to the choices of the present step, or to what opens its program, and from one choice to the next.
+export function toChoices() {
+  const first = !byId('s-lesson').hidden && byId('lesson-steps').querySelector('[data-keep="lesson-open"],.choices button');
+  if (first) first.focus(); else note('No step of a lesson waits for a choice.');
+}
+function fromChoiceToChoice(event) {
+  const way = { ArrowDown: 1, ArrowUp: -1 }[event.key], all = [...event.currentTarget.querySelectorAll('button')];
+  if (!way) return;
+  event.preventDefault();
+  all[(all.indexOf(document.activeElement) + way + all.length) % all.length].focus();
+}
 // A choice that is wrong may be followed by another one; how many were wrong is told.
 function choose(bench, step, choice) {
   lesson.picked[lesson.done] = choice;
   if (choice !== step.right) lesson.missed++;
   bench.changed('lesson');
 }
-const choicesOf = (bench, step) => step.choices.length ? el('span', { class: 'choices', role: 'group', 'aria-label': 'Choices' },
+const choicesOf = (bench, step) => step.choices.length ? el('span', { class: 'choices', role: 'group', 'aria-label': 'Choices',
+  onkeydown: fromChoiceToChoice },
   step.choices.map((choice, i) => el('button', { 'data-keep': 'choice-' + i, 'aria-pressed': String(lesson.picked[lesson.done] === choice),
     onclick: () => choose(bench, step, choice) }, withCode(choice))),
   lesson.missed ? el('em', {}, lesson.picked[lesson.done] === step.right ? ' Right, but there is more to do.'
@@ -84,7 +108,7 @@ function toOpen(bench, step) {
 
 function stepRow(bench, step, i) {
   const state = i < lesson.done ? 'done' : i === lesson.done ? 'present' : 'later', present = state === 'present';
-  return el('li', { class: state, 'aria-current': present ? 'step' : null },
+  return el('li', { class: state + (i === lesson.done - 1 ? ' newest' : ''), 'aria-current': present ? 'step' : null },
     el('span', { class: 'tick' }, state === 'done' ? '✓ ' : '▢ '), withCode(step.text), ' ',
     present ? [toOpen(bench, step), ' ', hintOf(bench, step), choicesOf(bench, step)] : null,
     state === 'done' && step.then ? el('span', { class: 'then' }, ' ', withCode(step.then)) : null);
@@ -106,14 +130,18 @@ export function drawLesson(bench) {
   whenDrawn(() => keepStepInSight(box));
 }
 
-// Where there is no room for the whole lesson, as in a lecture, its present step is in sight.
+// Where there is no room for the whole lesson, as in a lecture, its present step is at the top; above it what is told of the one that was
+// just done, if both have room; and behind the last one the answer.
 const seen = { step: null, lesson: -1 };
 function keepStepInSight(box) {
-  const step = box.querySelector('li.present'), again = seen.step === lesson.done && seen.lesson === lesson.number;
-  if (!step || again || box.scrollHeight <= box.clientHeight + 4) return null;
+  if (box.scrollHeight <= box.clientHeight + 4) { seen.lesson = -1; return null; }
+  if (seen.step === lesson.done && seen.lesson === lesson.number) return null;
   Object.assign(seen, { step: lesson.done, lesson: lesson.number });
-  const top = step.offsetTop - box.offsetTop - 30;
-  return () => { box.scrollTop = top; };
+  const step = box.querySelector('li.present') || byId('lesson-end'), outer = box.getBoundingClientRect();
+  const inner = step.getBoundingClientRect();
+  const told = box.querySelector('li.newest .then')?.getBoundingClientRect();
+  const top = told && inner.bottom - told.top < outer.height - 8 ? told.top : inner.top;
+  return () => { box.scrollTop += top - outer.top - 4; };
 }
 
 export const lessonList = (openIt, linkTo) => el('ol', { class: 'lessons' },

@@ -1,5 +1,6 @@
 // The lock tree as a table: nodes down, threads across; held modes solid, the
 // request of a blocked thread dashed, a clash crossed with the holder framed.
+// What stands in data-held and data-asks is compared with the program by web/test/views.mjs and panels.mjs.
 
 import { byId, el, chip, renew, threadColour, whenDrawn } from '../dom.js';
 import { placeIn } from './sections.js';
@@ -21,9 +22,14 @@ export function drawLocks(bench) {
   const heading = el('tr', {}, el('th', { scope: 'col' }, 'node'),
     threads.map(t => el('th', { scope: 'col' }, chip(t, waits.has(t) ? 'blk' : ''))));
   renew(byId('locks'), el('thead', {}, heading), el('tbody', {}, body));
-  const clash = byId('locks').querySelector('.wish.no'), box = byId('locks').parentElement;
-  if (clash) whenDrawn(() => placeIn(box, clash));
+  whenDrawn(placeClash);
 }
+// Below the threads, which stay where they are.
+function placeClash() {
+  const clash = byId('locks').querySelector('.wish.no');
+  return clash && placeIn(byId('locks').parentElement, clash, byId('locks').tHead);
+}
+export const keepClash = () => placeClash()?.();
 
 // Threads that wait at the position, with what they ask for now.
 function waitingRequests(bench) {

@@ -5,7 +5,7 @@ import { byId, el, renew, setText, withCode } from '../dom.js';
 import { acquireOf, functionAt, readProgram } from '../program.js';
 import { partsOfText } from '../own.js';
 import { verdictOf } from '../verdict.js';
-import { chosen, isForbidden, openingAt, lesson } from '../lessons.js';
+import { chosen, isForbidden, isOpened, openingAt, lesson, presentStep } from '../lessons.js';
 
 const shown = { is: false, which: '', were: false, enter: false };
 export const showOwn = is => { shown.is = is; };
@@ -59,9 +59,10 @@ function sectionOf(bench, list, s) {
     el('div', { class: 'soft registers-are' }, registersOf(bench, f)));
 }
 
-// What the lists are judged by: the source itself, or that of a lesson about an assembly program.
+// What the lists are judged by: the source itself, or that of a lesson about an assembly program. While the program of the step before
+// is still open, nothing is judged: it would look like a verdict on the present step.
 function judged(bench) {
-  if (!bench.run || bench.refusal) return null;
+  if (!bench.run || bench.refusal || presentStep()?.opening && isOpened(bench, openingAt(chosen(), lesson.done - 1))) return null;
   if (bench.kind === 'asl') return { source: bench.builtText, k: bench.builtK };
   const read = chosen(), opening = read && openingAt(read, lesson.done);
   return read?.source && opening.title === bench.title ? { source: read.source, k: opening.k } : null;
