@@ -10,6 +10,7 @@ SECTION = re.compile(r"section (\d+), ")
 LOCK = re.compile(r"  class (\d+) (?:read|write) ")
 CLASS = re.compile(r"class (\d+): ")
 PAIR = re.compile(r"  +.* are one class, since$")
+GROUND = re.compile(r"  +(.* point to one class, since|and more such reasons)$")
 AGAIN = re.compile(r"    why one class: see section \d+$")
 WITHOUT = re.compile(r"    without line \d+ they would be two$")
 
@@ -106,7 +107,7 @@ def wanted_blocks(text, classes):
         if head:
             reasons[number] = []
         elif line:
-            reasons[number].append(f"  {line}" if PAIR.match(line) else line)
+            reasons[number].append(f"  {line}" if PAIR.match(line) or GROUND.match(line) else line)
     first, wanted = {}, []
     for section, number, _ in blocks(text):
         again = [f"    why one class: see section {first[number]}"] if number in first and reasons[number] else []

@@ -243,7 +243,8 @@ static void refuses_waiters(void) {
   aslr_thread *holder = thread_of(runtime), *second = thread_of(runtime);
   visitor v = {.thread = second, .list = ON_CELL, .register_0 = a};
   pthread_t id;
-  MUST(aslr_section_enter(holder, ON_CELL, &a) == ASLR_OK && pthread_create(&id, NULL, visit, &v) == 0);
+  MUST(aslr_section_enter(holder, ON_CELL, &a) == ASLR_OK);
+  MUST(pthread_create(&id, NULL, visit, &v) == 0);
   moment();
   atomic_store(&granted, 0);
   MUST(aslr_section_leave(holder) == ASLR_OK);

@@ -15,7 +15,7 @@ class Checking:
         """The names of all why the image is not checked for the text, in the order in which it is judged: none where it is."""
         pc = other_code(self.own, image)
         if pc is not None:
-            return [f"OtherCode({pc})"]
+            return [f"OtherCode({pc}): {both_at(self.own, image, pc)}"]
         # (a cell may be read by several expressions of a list)
         return list(dict.fromkeys(f"{name}({number}, {lock.text()})" for name, number, lock in self.lacking(image)))
 
@@ -36,6 +36,33 @@ def other_code(own, image):
     if len(image.code) != len(own.code):
         return min(len(image.code), len(own.code))
     return None if tables(image) == tables(own) else len(image.code)
+
+
+# how an assembly text has an instruction: where its fields stand
+TEXTS = {
+    "int": "r{a}, {d}", "null": "r{a}", "mov": "r{a}, r{b}", "add": "r{a}, r{b}, r{c}", "sub": "r{a}, r{b}, r{c}",
+    "lt": "r{a}, r{b}, r{c}", "eq": "r{a}, r{b}, r{c}", "glob": "r{a}, g{d}", "field": "r{a}, r{b}, {d}", "load": "r{a}, r{b}",
+    "store": "r{a}, r{b}", "new": "r{a}, {b}, {d}", "jmp": "{d}", "jz": "r{a}, {d}", "call": "r{a}, r{b}, {d}", "ret": "r{a}",
+    "out": "r{a}", "acq": "{d}", "rel": "",
+}
+
+
+def instruction(one):
+    return "`" + f"{one.op} {TEXTS[one.op].format(a=one.a, b=one.b, c=one.c, d=one.d)}".strip() + "`"
+
+
+def function_at(image, pc):
+    return next(number for number, body in enumerate(image.bodies) if pc in body.pcs())
+
+
+def both_at(own, image, pc):
+    """What the source and the program have at a pc."""
+    if pc < len(own.code):
+        rest = f"the program has {instruction(image.code[pc])}" if pc < len(image.code) else "the program has none"
+        return f"function {function_at(own, pc)} of the source has {instruction(own.code[pc])} there, and {rest}"
+    if pc < len(image.code):
+        return f"function {function_at(image, pc)} of the program has {instruction(image.code[pc])} there, and the source has none"
+    return "the code is the source's, and the version or a table is not"
 
 
 def tables(image):
