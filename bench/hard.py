@@ -84,3 +84,141 @@ def crowded(copies, sections, first, second):
     second locks: what is told of the first one is found by leaving parts of it out."""
     body = "a=t;" * copies + fan(first, second)
     return globals_of(66) + "fn main(t){a=t;atomic{" + fan(66, 64) + "}" + in_sections(sections, body) + "return t;}"
+
+
+def flat(statements, sections, first, second):
+    """Sections in one another, each with so many copies before loads that need first times second locks."""
+    return globals_of(first) + "fn main(t){a=t;" + in_sections(sections, "a=t;" * statements + fan(first, second)) + "return t;}"
+
+
+def shared(sections, first, second):
+    """Sections one after the other that call one body, which needs first times second locks."""
+    body = globals_of(first) + "fn f(){t=0;" + fan(first, second) + "return t;}"
+    return body + "fn main(t){" + "atomic{x=f();}" * sections + "return t;}"
+
+
+def relay(functions, copies):
+    """Functions that pass a pointer on from register to register by copies of which each comes before the one that it needs, half of them the
+    one way round and half the other, and so many copies of a register that points nowhere."""
+    last = 57
+    first_half = "".join(f"w{n + 1}=w{n};" for n in range(0, last, 2))
+    second_half = "".join(f"w{n + 1}=w{n};" for n in range(1, last, 2))
+    idle = "a=b;" * (copies // functions)
+    bodies = ""
+    for number in range(functions):
+        onward = f"r=f{number + 1}(w{last});" if number + 1 < functions else ""
+        bodies += f"fn f{number}(w0){{a=1;b=1;{first_half}{idle}{second_half}{onward}return b;}}"
+    return "global g;" + bodies + "fn main(t){p=&g;r=f0(p);return t;}"
+
+
+def ways(loads, sections):
+    """So many rounds of three loads that follow one another from a parameter, in a body that so many sections call."""
+    body = "".join(f"f=&v[{n % 256}];x=*f;f=&x[{n // 256}];y=*f;f=&y[0];z=*f;" for n in range(loads))
+    return "global g;fn f(v){" + body + "return v;}fn main(t){p=&g;" + "atomic{r=f(p);}" * sections + "return t;}"
+
+
+def stars(stores, sections, first, second):
+    """Sections in one another, each with so many stores to an object that no list has, before loads by pointers in the cells of another, which need
+    first times second locks."""
+    loads = one_of("p", [f"&o[{n}]" for n in range(first)]) + "y=*p;" + one_of("z", [f"&y[{n}]" for n in range(second)]) + "x=*z;"
+    return "fn main(t){o=new 255;atomic{*o=o;}s=new 1;" + in_sections(sections, "*s=t;" * stores + loads) + "return t;}"
+
+
+def ring(registers, copies, sections, first, second):
+    """Sections in one another round a loop in which a lock goes one register a turn, past so many copies, and loads behind it that need
+    first times second locks."""
+    names = [f"r{n}" for n in range(registers)]
+    moves = "".join(f"{names[n]}={names[n + 1]};" for n in range(registers - 1))
+    loads = one_of("q", [f"&p[{n}]" for n in range(first)]) + "y=*q;" + one_of("z", [f"&y[{n}]" for n in range(second)]) + "x=*z;"
+    body = "while t{" + "a=t;" * copies + moves + "}p=" + names[0] + ";" + loads
+    begun = "fn main(t){p=new 255;atomic{*p=p;}a=t;" + "".join(f"{it}=p;" for it in names)
+    return begun + in_sections(sections, body) + "return t;}"
+
+
+def wheels(outer, inner, lengths, copies, sections):
+    """Sections in one another round a loop in a loop: each turn of the outer one moves a lock one register on and gives it to the inner one by
+    another path, which moves that one register a turn; after all registers of the outer one the path is longer. So the inner one, with so many
+    copies, makes outer times inner times lengths turns, each with one lock more."""
+    os_ = [f"o{n}" for n in range(outer)]
+    is_ = [f"i{n}" for n in range(inner)]
+    given = "".join("if t{%s=&i0[%d];}" % (os_[n], n) for n in range(outer))
+    longer = f"if t{{{os_[-1]}=&o0[255];}}" if lengths > 1 else ""
+    turned = "".join(f"{os_[n]}={os_[n + 1]};" for n in range(outer - 1))
+    moved = "".join(f"{is_[n]}={is_[n + 1]};" for n in range(inner - 1))
+    body = "while t{" + turned + longer + "while t{" + "a=t;" * copies + moved + "}" + given + "}x=*o0;"
+    begun = "fn main(t){p=new 255;a=t;" + "".join(f"{it}=p;" for it in os_ + is_)
+    return begun + in_sections(sections, body) + "return t;}"
+
+
+def clique(functions, callees):
+    """Functions that call so many of the others, each with a global of its own, and stores of its own to four classes."""
+    text = globals_of(functions)
+    for n in range(functions):
+        calls = "".join(f"x={name((n * 7 + 1 + m) % functions)}();" for m in range(callees))
+        news = "".join(f"{r}=new 1;" for r in "bcd")
+        stores = "".join(f"*{r}=x;" for r in "bcd")
+        text += f"fn {name(n)}(){{p=&g{n};x=0;{news}{calls}*p=x;{stores}return x;}}"
+    return text + f"fn main(t){{atomic{{x={name(0)}();}}return t;}}"
+
+
+def tired(sections, copies, first, second):
+    """Sections that call one body, in which each of first times second locks, at most 256, changes its register so many times: what is found in the
+    body is more than is kept, so the rest is sought anew for each section."""
+    loads = one_of("q", [f"&a[{n}]" for n in range(first)]) + "y=*q;" + one_of("z", [f"&y[{n}]" for n in range(second)]) + "x=*z;"
+    body = "fn f(a){t=0;" + "b=a;a=b;" * (copies // 2) + loads + "return t;}"
+    return body + "fn main(t){p=new 255;atomic{*p=p;}" + "atomic{x=f(p);}" * sections + "return t;}"
+
+
+def sharp(sections, first, second):
+    """A section that needs too many locks, before sections one after the other that call one body, which needs first times second locks:
+    what is told of the first one is found by inferring for all of them again and again."""
+    body = globals_of(66) + "fn f(){t=0;" + fan(first, second) + "return t;}"
+    return body + "fn main(t){atomic{" + fan(66, 64) + "}" + "atomic{x=f();}" * sections + "return t;}"
+
+
+def made(news, sections, first, second):
+    """Sections in one another, each with so many objects of its own before loads that need first times second locks, all of which are needed after
+    each of the objects is made."""
+    return globals_of(first) + "fn main(t){" + in_sections(sections, "n=new 1;" * news + fan(first, second)) + "return t;}"
+
+
+def blanks(sections, first, second, width):
+    """Sections that call one body with first times second locks, at most 256, by one load that has so many blanks in it: each telling of the
+    statement goes through them."""
+    body = globals_of(first) + "fn f(){t=0;" + fan(first, second)[:-1].replace("x=*q", "x=*" + " " * width + "q") + ";return t;}"
+    return body + "fn main(t){" + "atomic{x=f();}" * sections + "return t;}"
+
+
+def broad(sections, functions, cells):
+    """Sections that call one body, which calls so many functions with a global and so many locks each: the list has a lock on each of their
+    classes, and what each of these covers is looked for among all."""
+    bodies, calls = "", ""
+    for n in range(functions):
+        bodies += f"fn {name(n)}(){{t=0;p=&g{n};" + one_of("q", [f"&p[{c}]" for c in range(cells)]) + "x=*q;return t;}"
+        calls += f"x={name(n)}();"
+    return globals_of(functions) + bodies + "fn all(){" + calls + "return x;}" + "fn main(t){" + "atomic{x=all();}" * sections + "return t;}"
+
+
+def classy(sections, classes, filling):
+    """Sections that need two loads of so many classes each by a path that is too long (with k = 0), in a program of so many statements more:
+    who is in a class is looked for in the whole code for each lock of each list."""
+    bodies, calls = "", ""
+    for n in range(classes):
+        bodies += f"fn f{n}(){{p=&g{n};q=&p[1];x=*q;return x;}}"
+        calls += f"x=f{n}();"
+    idle = "fn idle(t){" + "a=t;" * filling + "return t;}"
+    return globals_of(classes) + bodies + "fn all(){" + calls + "return x;}" + idle + "fn main(t){" + "atomic{x=all();}" * sections + "return t;}"
+
+
+def copied_on(members):
+    """So many sites in a row of registers, each of which is copied from the one before: the chain from the first to the last has as many
+    steps, and those to all of them half as many squared."""
+    rows, text, left = 60, "", members
+    functions = (members + rows - 1) // rows
+    for n in range(functions):
+        here = min(rows, left)
+        left -= here
+        lines = "".join(f"{name(i + 1)}={name(i)};{name(i + 1)}=new 1;" for i in range(here))
+        onward = f"z=f{n + 1}({name(here)});" if n + 1 < functions else ""
+        text += f"fn f{n}(a){{{lines}{onward}return a;}}"
+    return text + "fn main(t){p=new 1;p=f0(p);return t;}"

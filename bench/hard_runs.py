@@ -34,3 +34,16 @@ def heap(asm, objects, threads, locks):
     image = asm(["version 2", f"classes {max(1, locks)}", *globals_of(locks), *code])
     made = [(0, RAN)] * (objects + (max(0, objects - 1)) // 500)
     return run_file(image, threads, [(0, RAN)] + [(t, BLOCKED) for t in range(1, threads)] + made)
+
+
+def deep(asm, threads, frames):
+    """So many threads, each in so many calls of a function with 64 registers."""
+    image = asm(["version 2", "classes 1", "entry 0", "fn 1 64", "call r1, r0, 0", "ret r0"])
+    return run_file(image, threads, [(thread, RAN) for thread in range(threads) for _ in range(frames)])
+
+
+def granted(asm, events, locks):
+    """A thread that is granted so many locks and gives them back, so many events."""
+    code = ["entry 0", "fn 1 1", "acq 0", "rel", "jmp 0"]
+    image = asm(["version 2", f"classes {locks}", *globals_of(locks), *code, "list", *locks_of(locks)])
+    return run_file(image, 1, [(0, RAN)] * events)
