@@ -9,6 +9,8 @@ import tempfile
 
 ROOT = pathlib.Path(__file__).resolve().parent.parent
 OPEN = re.compile(r"^fn (\S+): (?:not proved|no proof: (?!it calls))")
+# neither proved nor refused: a limit of the prover ended the check of the function, or what it calls is not proved, so it was not looked at
+UNTOLD = re.compile(r"^fn (\S+): (?:could not tell|no proof: it calls)")
 # an error of a proof that is written: its goal, and what is wrong
 GOAL = re.compile(r"^\./proofs/(\S+)/(?:Answers|Invariants|Proof)\.antt:\d+:\d+: error: `([\w-]+)`")
 NAMES = re.compile(r"(note: )?(\./)?proofs/.*(has no field|is not in scope|has no `|was not admitted)")
@@ -26,6 +28,7 @@ class Told:
         self.is_proved = status == 0 and last.startswith("logic=proved") or "logic=partial" in last
         self.open = {found[1]: re.findall(r"`([\w-]+)`", line.split("did not prove", 1)[-1]) if "did not prove" in line else []
                      for line in self.lines for found in [OPEN.match(line)] if found}
+        self.untold = {found[1] for line in self.lines for found in [UNTOLD.match(line)] if found}
         for line in self.lines:
             found = GOAL.match(line)
             for name in self.open:
@@ -43,6 +46,9 @@ class Told:
     def named(self, function):
         """The functions that the prover calls so, or by a name that ends so."""
         return [it for it in self.functions() if it == function or it.endswith("::" + function)]
+
+    def is_untold(self, function):
+        return any(it in self.untold for it in self.named(function))
 
     def is_open(self, function):
         return any(it in self.open for it in self.named(function))
