@@ -25,18 +25,6 @@ is_proved() {
   [ -d "$kept/rlib" ] && [ -f "$kept/proved-from" ] && [ "$(<"$kept/proved-from")" = "$2" ]
 }
 
-# as many crates at a time as there are processors, and as memory has room for at 3 GB each
-crates_at_a_time() {
-  local processors memory limit
-  processors=$(nproc)
-  memory=$(awk '/^MemAvailable:/ { print $2 }' /proc/meminfo)
-  limit=$(cat /sys/fs/cgroup/memory.max 2>/dev/null || echo max)
-  [ "$limit" = max ] || [ $((limit / 1024)) -ge "$memory" ] || memory=$((limit / 1024))
-  memory=$((memory / 3000000))
-  [ "$memory" -ge 1 ] || memory=1
-  echo $((processors < memory ? processors : memory))
-}
-
 # links_to VIEW NAME PART..: parts of a crate as links in a view
 links_to() {
   local view=$1 name=$2 part
@@ -138,11 +126,15 @@ leads() {
   for other in "${builds[@]}"; do [ "${height[$other]}" -le "${height[$1]}" ] || return 1; done
 }
 
-# begin NAME PROCESSORS: proves the crate in a group of processes of its own. The crate that leads, for which most others wait, may
-# use all processors; the others have two processes each, which give way to it
+# begin NAME PROCESSORS: proves the crate in a group of processes of its own. The crate that leads, for which most others wait, has two
+# processes, or all processors where it is alone; the others have one each and give way to it. (More processes than processors cost: by
+# four of them beside three other crates asl_syntax took 950 processor seconds, which alone takes 380.)
 begin() {
-  local jobs=$2 niceness=0
-  leads "$1" || { jobs=$(($2 < 2 ? $2 : 2)) niceness=5; }
+  local jobs=1 niceness=5
+  if leads "$1"; then
+    jobs=$2 niceness=0
+    [ ${#builds[@]} = 0 ] || [ "$jobs" -le 2 ] || jobs=2
+  fi
   set -m
   if [ "$1" = asl ]; then link & else prove "$1" "${sums[$1]}" "$jobs" "$niceness" "${built[@]}" & fi
   set +m

@@ -74,3 +74,15 @@ needs_kit() {
     exit 1
   }
 }
+
+# as many crates at a time as there are processors, and as memory has room for at 3 GB each
+crates_at_a_time() {
+  local processors memory limit
+  processors=$(nproc)
+  memory=$(awk '/^MemAvailable:/ { print $2 }' /proc/meminfo)
+  limit=$(cat /sys/fs/cgroup/memory.max 2>/dev/null || echo max)
+  [ "$limit" = max ] || [ $((limit / 1024)) -ge "$memory" ] || memory=$((limit / 1024))
+  memory=$((memory / 3000000))
+  [ "$memory" -ge 1 ] || memory=1
+  echo $((processors < memory ? processors : memory))
+}
