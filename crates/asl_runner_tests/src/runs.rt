@@ -16,11 +16,11 @@ const COUNTER: &[u8] =
     b"version 1\nclasses 1\nglobal 0\nentry 0\nfn 1 5\nglob r1, g0\nacq 0\nload r2, r1\nint r3, 1\nadd r4, r2, r3\nstore r1, r4\nrel\nret r0\nlist\nexpr r1 write\n";
 
 /// How often a gate looks before it gives up.
-const LOOKS: u64 = 1_000_000_000;
+pub const LOOKS: u64 = 1_000_000_000;
 
 /// A gate that never waits.
 #[derive(Drop)]
-struct Open;
+pub struct Open;
 
 impl Gate for Open {
     fn before(&self, _worker: u8, _call: u64) {}
