@@ -48,9 +48,10 @@ const reader = (bench, examples) => (name, text) => {
   return () => openText(bench, text, examples, name, isOfAnswer);
 };
 // How what was done is kept in a link, and read from it again: as an answer.
-const keeper = examples => ({
+const keeper = (bench, examples) => ({
   pack: (number, records) => packText(answerText(number, records, '')),
   unpack: async letters => readAnswer(await unpackText(letters), examples).answer?.records || [],
+  told: () => bench.changed('lesson'),
 });
 const GIVEN = /^#(lesson-text|answer)=([\w-]+)$/;
 // The same of an address.
@@ -59,7 +60,7 @@ export async function openGivenLink(bench, fragment, examples) {
   if (!word) return false;
   const isOfAnswer = word === 'answer', text = await unpackText(letters).catch(() => null);
   if (text !== null) {
-    const name = isOfAnswer ? 'The answer' : 'The lesson', wrong = await openText(bench, text, examples, name, isOfAnswer);
+    const name = isOfAnswer ? 'The answer' : 'The lesson', wrong = await openText(bench, text, examples, 'by a link', isOfAnswer);
     if (wrong.length) tellRefused([{ name, wrong }], 1);
     return !wrong.length;
   }
@@ -82,7 +83,7 @@ export function openLessonsDialog(bench, examples) {
 
 export function listenToExtras(bench, examples) {
   readers.push(reader(bench, examples));
-  keepRecords(keeper(examples));
+  keepRecords(keeper(bench, examples));
   listenToGutter(bench);
   listenToPredict(bench);
   listenToClasses(bench);

@@ -6,6 +6,7 @@ import { assemblyOf, readFile, sourceOf } from './files.js';
 import { closeTrouble, tellTrouble } from './panels/trouble.js';
 import { note, openDialog } from './page.js';
 import { Dropped, unlessDropped } from './aside.js';
+import { chosen, openedHere, programsOf } from './lessons.js';
 import { lessonOf, tellRefused } from './panels/lesson.js';
 import { wordsOfFragment } from './share.js';
 
@@ -31,7 +32,9 @@ function remember(entry) {
 const known = (bench, examples) => [
   ...opened.map(({ whole }) => whole).reverse(),
   ...(bench.text ? [{ text: bench.builtText || bench.text, title: bench.title, kind: bench.kind }] : []),
-  ...Object.entries(examples).map(([title, { text, kind }]) => ({ text, title, kind }))].filter(({ kind }) => kind === 'asl');
+  ...openedHere().reverse().flatMap(programsOf), ...(chosen() ? programsOf(chosen()) : []),
+  ...Object.entries(examples).map(([title, { text, kind }]) => ({ text, title, kind }))]
+  .filter(({ text, kind }, i, all) => kind === 'asl' && all.findIndex(other => other.text === text) === i);
 
 // A run or an image with the source that makes it, or as assembly.
 async function withSource({ name, image, run = {} }, sources) {
@@ -57,10 +60,15 @@ function refuse(name, error) {
   tellTrouble(name, error.message);
 }
 
-// Opens files, each { name, bytes }: the sources first. What is shown then is the last run, or else the last source.
+// Opens files, each { name, bytes }: sources, lessons and answers first. What is shown then is the last run, or else the last source.
 export async function openFiles(bench, examples, files) {
   const parts = await readAll(files), shown = [];
   for (const { name, whole } of parts) if (whole) shown.push(remember({ name, whole }));
+  const refused = [];
+  for (const { name, done } of parts) {
+    const wrong = done ? await done() : [];
+    if (wrong.length) refused.push({ name, wrong });
+  }
   const sources = known(bench, examples), wanting = opened.filter(({ image }) => image);
   for (const part of parts.filter(({ image }) => image)) {
     try { shown.push(remember(await withSource(part, sources))); } catch (error) { refuse(part.name, error); }
@@ -68,11 +76,6 @@ export async function openFiles(bench, examples, files) {
   for (const orphan of shown.some(({ whole }) => whole.kind === 'asl') ? wanting : []) {
     const source = await sourceOf(orphan.image, sources);
     if (source) shown.push(remember({ name: orphan.name, whole: { ...source, ...orphan.run } }));
-  }
-  const refused = [];
-  for (const { name, done } of parts) {
-    const wrong = done ? await done() : [];
-    if (wrong.length) refused.push({ name, wrong });
   }
   if (refused.length) tellRefused(refused, files.length);
   const last = shown.findLast(({ whole }) => whole.schedule) || shown.at(-1);

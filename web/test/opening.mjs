@@ -40,6 +40,16 @@ await part('a run and its source: at once in either order, one after the other i
   check(await run("workbench.bench.title") !== 'student.asm' && await run('workbench.bench.past.canGoForward'), 'undo goes back to what was there');
 });
 
+await part('a run of a program of a lesson that was opened finds it, also of its second one', async () => {
+  const second = 'global h;\nfn main(t) {\n  p = &h;\n  atomic { *p = t; }\n  return t;\n}\n';
+  const lesson = `lesson x\nexample counter.asl\nstep a\nuntil all threads have ended\nstep b\nprogram two.asl\n${second}end program\nuntil all threads have ended\n`;
+  await open();
+  await opened(['x.lesson', lesson], ['theirs.run', runOf(second, 2, 2, 0, 0, 1)]);
+  check(/^asl,two\.asl,\d,2,001$/.test(await seen()) && await told() === '', 'with the lesson: ' + await seen() + await told());
+  await open(); await opened(['x.lesson', lesson]); await opened(['theirs.run', runOf(second, 2, 2, 0, 1)]);
+  check(/^asl,two\.asl,\d,2,01$/.test(await seen()) && await told() === '', 'after it: ' + await seen() + await told());
+});
+
 await part('source and run in one file, which gives the same again', async () => {
   await open('#lesson=3');
   for (const name of ['0', '1', '0', '0', 'ArrowLeft']) await key(name);
