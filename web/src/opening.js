@@ -2,7 +2,7 @@
 // examples. A run finds its source among those that were opened, the text that is open, and the examples.
 
 import { byId, count, el } from './dom.js';
-import { assemblyOf, readFile, sourceOf } from './files.js';
+import { assemblyOf, readFile, sourceOf, textOf } from './files.js';
 import { closeTrouble, tellTrouble } from './panels/trouble.js';
 import { note, openDialog } from './page.js';
 import { Dropped, unlessDropped } from './aside.js';
@@ -50,7 +50,7 @@ async function readAll(files) {
   for (const { name, bytes } of files) {
     try {
       const text = new TextDecoder().decode(bytes), done = readers.map(reader => reader(name, text)).find(Boolean);
-      parts.push(done ? { name, done } : await readFile(name, bytes));
+      parts.push(done && textOf(bytes) ? { name, done } : await readFile(name, bytes));
     } catch (error) { refuse(name, error); }
   }
   return parts;
@@ -97,17 +97,22 @@ export async function openFileList(bench, examples, list) {
   await unlessDropped(openFiles(bench, examples, files));
 }
 
-// The fragment of a link that was pasted, of this page or of another place; empty where there is none.
-export const fragmentOf = words => /#\S+/.exec(words.trim())?.[0] || '';
+// What may be the fragment of a link among words that were pasted, of this page or of another place: all behind its \x60#\x60, then what
+// stands before the first blank. Mails break a link into lines, and people put marks round it.
+export const hasFragment = words => /#\S/.test(words);
+export function fragmentsOf(words) {
+  const all = words.replace(/^[>\s]+/gm, ''), at = all.search(/#[a-z-]+=/), said = all.slice(at < 0 ? all.indexOf('#') : at);
+  return [said.replace(/>.*/s, '').replace(/\s/g, ''), /^\S*/.exec(said)[0]].map(link => link.replace(/[\s.,;:!?)>\]"'”’]+$/, ''));
+}
 
 export function openOpening(chooseFiles, openLink) {
   const field = el('input', { id: 'link', type: 'text', size: 48, autocomplete: 'off', spellcheck: 'false', 'aria-label': 'Link',
     placeholder: '…workbench.html#example=…', onkeydown: event => { if (event.key === 'Enter') take(); } });
   const take = () => {
-    const fragment = fragmentOf(byId('link').value);
+    const words = byId('link').value;
     byId('dialog').close();
     closeTrouble();
-    if (fragment) openLink(fragment);
+    if (hasFragment(words)) openLink(words);
     else tellTrouble('The link', 'it has no \x60#\x60, behind which a link says what to open. Copy the whole of it.');
   };
   openDialog('Open', el('p', {}, el('button', { id: 'choose-files', onclick: () => { byId('dialog').close(); chooseFiles(); } },

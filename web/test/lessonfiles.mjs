@@ -1,7 +1,7 @@
 // Lessons as texts: each kind of fault is refused with its line, hostile ones stay texts, and what is handed in is replayed and judged.
 import { readFileSync } from 'node:fs';
 import { deflateRawSync, inflateRawSync } from 'node:zlib';
-import { browser, calm, check, key, must, open, part, run, settled, textOf, until } from './kit.mjs';
+import { browser, calm, check, key, must, open, part, PASTE, run, settled, textOf, until } from './kit.mjs';
 
 export const pack = text => deflateRawSync(text).toString('base64url');
 export const GOOD = `# of a test
@@ -34,8 +34,8 @@ const FAULTS = [
   ['hello', 1, /first line is "lesson"/], [edit('lesson Two steps\n', ''), 2, /first line is "lesson"/],
   [edit('lesson Two steps', 'lesson'), 2, /something is missing after "lesson"/], [edit('about a test', 'abut a test'), 3, /"abut" is no word/],
   [edit('about a test', 'about a test\nabout another'), 4, /stands here twice/], [edit('end program', 'end programme'), 4, /the program has no end program before the step in line 15/],
-  [edit('own.asl', 'own.txt'), 4, /ends in \.asl or \.asm/], [edit('*p = t;', '*p = u;'), 8, /the program is refused: .*u/], [edit('*p = t;', '*p = t'), 8, /does not continue a program here; ; ends the line/],
-  [edit('out t;', 'out t'), 9, /; is missing at the end of this line, before return; ; ends the line/],
+  [edit('own.asl', 'own.txt'), 4, /ends in \.asl or \.asm/], [edit('*p = t;', '*p = u;'), 8, /the program is refused: .*u/], [edit('*p = t;', '*p = t'), 8, /does not continue a program here; a ; is missing before it/],
+  [edit('out t;', 'out t'), 9, /; is missing at the end of this line, before return\.?(?!; )/],
   [edit('end program', 'end program\nexample counter.asl'), 13, /a program stands here already/],
   [edit(/program own[^]*end program/, 'example nope.asl'), 4, /no example "nope.asl"/], [edit(/program own[^]*end program\n/, ''), 15, /there is no program/],
   [edit('k 1', 'k 9'), 13, /k is a number from 0 to 8/], [edit('threads 2', 'threads 0'), 14, /threads is a number from 1 to 128/],
@@ -103,6 +103,23 @@ await part('a hostile lesson stays text', async () => {
   for (const letters of ['', 'AAAA', '!!!', pack('lesson').slice(2)]) { await open('#lesson-text=' + letters); await settled(); }
   must(await run('window.bad === undefined && document.images.length === 0 && document.scripts.length') === 4, 'no markup comes of it');
   check(await run('workbench.bench.title') === 'counter.asl', 'a damaged link opens the page as it is');
+});
+
+await part('what a step forbids is told by its name, and its buttons are grey', async () => {
+  await openText(edit('threads 2', 'threads 2\nforbid robin k threads edit'));
+  const grey = () => run("['robin', 'random', 'until', 'k', 'threads-wanted'].filter(id => document.getElementById(id).disabled).join()");
+  check(await grey() === 'robin,k,threads-wanted', 'grey: ' + await grey());
+  for (const [name, words] of [['r', 'Round robin'], ['k', 'another k'], ['t', 'another number of threads']]) {
+    await key(name); await settled();
+    check(await textOf('#note') === `This step of the lesson is to be done without ${words}.`, `${name}: ${await textOf('#note')}`);
+  }
+  const text = await run('workbench.bench.text');
+  await key('e'); await key('x'); await settled();
+  check(/without another text\.$/.test(await textOf('#note')), 'a letter: ' + await textOf('#note'));
+  await run(`document.getElementById('text').dispatchEvent((${PASTE})('global more;'.repeat(400)))`); await settled();
+  check(await run('workbench.bench.text') === text, 'the text stays, also where a long one is pasted');
+  await key('Escape'); await run("document.getElementById('lesson-close').click()"); await settled();
+  check(await grey() === '', 'without the lesson none is grey: ' + await grey());
 });
 
 export const unpack = letters => inflateRawSync(Buffer.from(letters, 'base64url')).toString();
@@ -247,7 +264,7 @@ await part('the lesson and the links of the pages open', async () => {
   check(/^Done\. Keys 0 0 1 1/.test(await textOf('#lesson-end')), 'the shortest lesson is done by its answer: ' + await textOf('#s-lesson'));
   const links = [...page('TEACHING.md').matchAll(/\]\(workbench\.html(#[^)]*)\)/g)].map(([, link]) => link);
   check(links.length >= 14, 'links: ' + links.length);
-  const said = { 'lost.asl': /Start/, 'bank.asl': /blocked.*class 1/, 'walk.asl': /blocked.*head/, 'unprotected.asm': /fault Unprotected 0\.0 read/ };
+  const said = { 'lost.asl': /Start/, 'bank.asl': /blocked.*class 1/, 'walk.asl': /blocked.*head/, 'unprotected.asm': /▲ fault: \S+ is read without a lock; the thread held nothing/ };
   for (const link of links) {
     await open(link); await settled();
     const [, example] = /example=([\w.-]+)/.exec(link) || [], [, number] = /lesson=(\d)/.exec(link) || [];

@@ -2,7 +2,7 @@
 
 import { byId, count, el, renew, whenDrawn, withCode } from '../dom.js';
 import { copyText, download } from '../files.js';
-import { note, openDialog } from '../page.js';
+import { linkHint, note, openDialog } from '../page.js';
 import { chosen, differsAt, isKnown, isOfPage, lesson, triedHere } from '../lessons.js';
 import { answerText, judgeAnswer, readAnswer } from '../handin.js';
 import { marksOf, standingOf, sumOf, tableOf } from '../answers.js';
@@ -39,7 +39,7 @@ export function openHandIn(bench) {
     } }, 'Copy a link'),
     el('button', { id: 'hand-file', onclick: save }, 'Save a file')),
   el('p', { id: 'handed-told', 'aria-live': 'polite' }),
-  el('pre', { id: 'handed', class: 'handed', tabindex: 0 }));
+  linkHint(), el('pre', { id: 'handed', class: 'handed', tabindex: 0 }));
   tell('');
   byId('handed-by').value = state.by;
   byId('handed-by').focus();

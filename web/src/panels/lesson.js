@@ -75,6 +75,7 @@ export function closeLesson(bench) {
   bench.keep();
   endLesson();
   drawLesson(bench);
+  bench.changed('lesson');
 }
 
 function hintOf(bench, step) {
@@ -152,10 +153,12 @@ export function drawLesson(bench) {
 }
 
 // Where there is no room for the whole lesson, as in a lecture, its present step is at the top; above it what is told of the one that was
-// just done, if both have room; and behind the last one the answer.
+// just done, if both have room; and behind the last one the answer. Where it cannot come to the top, the lesson stands at its title, or if
+// that leaves no room for the step, there is room made below: the title is whole or out of sight.
 const seen = { step: null, lesson: -1, waits: false };
 function keepStepInSight(box) {
-  if (box.scrollHeight <= box.clientHeight + 4) { seen.lesson = -1; return null; }
+  const end = byId('lesson-end'), made = parseFloat(end.style.paddingBottom) || 0;
+  if (box.scrollHeight - made <= box.clientHeight + 4) { seen.lesson = -1; return () => { end.style.paddingBottom = ''; }; }
   const waiting = Boolean(lesson.aside);
   if (seen.step === lesson.done && seen.lesson === lesson.number && seen.waits === waiting) return null;
   Object.assign(seen, { step: lesson.done, lesson: lesson.number, waits: waiting });
@@ -163,7 +166,12 @@ function keepStepInSight(box) {
   const inner = step.getBoundingClientRect();
   const told = !waiting && box.querySelector('li.newest .then')?.getBoundingClientRect();
   const top = told && inner.bottom - told.top < outer.height - 8 ? told.top : inner.top;
-  return () => { box.scrollTop += top - outer.top - 4; };
+  const to = box.scrollTop + top - outer.top - 4, most = box.scrollHeight - made - box.clientHeight;
+  const isBelow = to > most, fits = inner.bottom - outer.top + box.scrollTop < outer.height - 4;
+  return () => {
+    end.style.paddingBottom = isBelow && !fits ? to - most + 'px' : '';
+    box.scrollTop = isBelow && fits ? 0 : to;
+  };
 }
 
 export const lessonList = (openIt, linkTo) => el('ol', { class: 'lessons' },
