@@ -3,7 +3,6 @@ mod Sets
 mod ReplacedLists
 mod Tables
 mod Marks
-mod Freshness
 mod Rows
 mod CallRows
 mod JumpRows
@@ -23,13 +22,13 @@ mod SpanLaws
 mod Points
 mod Waits
 mod Taking
-mod Nexts
 mod Befores
 -- what locks become over an instruction, at calls and at entries
 mod Masking
 mod Splitting
 mod Linking
 mod Entries
+mod Passing
 -- only what is needed is found, and all of it
 mod Sound
 mod Closing

@@ -1,11 +1,11 @@
 //! What is found to be needed so far, region by region, and what of it is still to be followed.
-ghost use Rattle.std.specs.Prelude.{◌≡◌, ◌<◌, ◌↔◌, ℕ, true, Some, length, slice_get, vec_len, IfOk, OnOk, OnErr, IfErr, IfSome, IfNone};
+ghost use Rattle.std.specs.Prelude.{◌≡◌, ◌<◌, ◌↔◌, ℕ, true, Some, slice_get, vec_len, IfOk, OnOk, OnErr, IfErr};
 ghost use Rattle.asl_code.specs.declared.lock.Lock.{Lock};
 ghost use Rattle.asl_lane_sets.specs.NumberSet.{IsIn};
 ghost use Rattle.asl_lock_expr.specs.Links.{IsOne};
-ghost use Rattle.asl_backward_flow.specs.Found.{table, locks_of, IsBlank, Has, HasPoint, HasFact, IsNamed, IsWhole, IsOver, Adds, Lists, IsNext, HasNumbers};
+ghost use Rattle.asl_backward_flow.specs.Found.{table, locks_of, IsBlank, Has, HasPoint, HasFact, IsNamed, IsWhole, IsOver, Adds, Lists, HasNumbers};
 
-use crate::region_needs::{RegionNeeds, add_number, mark_fresh, merge_fresh, number};
+use crate::region_needs::{RegionNeeds, add_number, mark, merge, number};
 use crate::span::Span;
 use crate::waiting::Waiting;
 use asl_code::Lock;
@@ -15,7 +15,7 @@ use std::alloc::{AllocError, Global};
 /// The most locks that a region may need.
 const MAX_LOCKS: usize = 4096;
 
-/// The regions with what they are found to need, and the points at which something of it is not followed yet. The last
+/// The regions with what they are found to need, and the points at which something is needed that is not followed yet. The last
 /// is followed first, since locks flow backwards.
 #[derive(Drop)]
 pub struct Found {
@@ -76,7 +76,7 @@ impl Found {
             return Err(AddFault::Many(part));
         }
         let place = usize::from(pc - region.first);
-        let is_new = mark_fresh(&mut region.needs, &mut region.fresh, place, number)?;
+        let is_new = mark(&mut region.needs, place, number)?;
         self.list.put(is_new, (part, pc))?;
         Ok(number)
     }
@@ -96,7 +96,7 @@ impl Found {
     {
         let needing = &mut self.parts[usize::from(part)];
         let place = usize::from(pc - needing.first);
-        let is_new = merge_fresh(&mut needing.needs, &mut needing.fresh, place, numbers)?;
+        let is_new = merge(&mut needing.needs, place, numbers)?;
         self.list.put(is_new, (part, pc))?;
         Ok(())
     }
@@ -143,18 +143,14 @@ impl Found {
         Ok(())
     }
 
-    /// Takes the last point off the list, and makes a set that of the numbers that are still to be followed there.
-    pub fn next(&mut self, set: &mut Bits) -> Option<(u16, u16)>
-        requires { IsWhole (table self.old) }
-        ensures some { IfSome result (λ point. IsNext (table self.old) (table self.new) point set.new) }
-        ensures none { IfNone result (length (table self.old).list ≡ 0) }
-        ensures unchanged { IfNone result (table self.new ≡ table self.old) }
+    /// Makes a set that of the numbers of the locks that a region is found to need at a pc.
+    pub fn needs(&self, part: u16, pc: u16, into: &mut Bits) -> Result<(), AllocError>
+        requires there { part < vec_len self.now.parts }
+        requires point { HasPoint (table self.now) part pc }
+        ensures { OnOk result ((n : ℕ) → IsIn into.new n ↔ Has (table self.now) part pc n) }
     {
-        let point = self.list.pop()?;
-        let region = &mut self.parts[usize::from(point.0)];
-        let place = usize::from(point.1 - region.first);
-        *set = region.fresh.take(place);
-        Some(point)
+        let region = &self.parts[usize::from(part)];
+        into.copy_from(&region.needs[usize::from(pc - region.first)])
     }
 
     /// The locks of these numbers of a region.

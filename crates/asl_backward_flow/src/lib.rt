@@ -9,7 +9,6 @@ mod flow;
 mod flow_analysis;
 mod following;
 mod found;
-mod fresh;
 mod graph;
 mod laws;
 mod masks;

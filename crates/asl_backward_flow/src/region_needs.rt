@@ -6,10 +6,9 @@ ghost use Rattle.asl_lane_sets.specs.NumberSet.{IsIn};
 ghost use Rattle.asl_lock_expr.specs.Links.{IsOne};
 ghost use Rattle.asl_lock_expr.specs.Order.{AreInOrder};
 ghost use Rattle.asl_backward_flow.specs.Needed.{IsInNeeds};
-ghost use Rattle.asl_backward_flow.specs.Found.{Numbers, IsMarked, IsFresher, AreSome, IsNamed, IsBlankNeeds};
+ghost use Rattle.asl_backward_flow.specs.Found.{Numbers, IsMarked, IsNamed, IsBlankNeeds};
 ghost use Rattle.asl_backward_flow.specs.Parts.{part};
 
-use crate::fresh::Fresh;
 use crate::region::Region;
 use crate::span::Span;
 use asl_code::{Base, Lock, Op};
@@ -33,15 +32,13 @@ const DIGITS: u64 = 258;
 const KEY_OPS: usize = 2 * HALF_OPS;
 
 /// A region with its locks in the order in which they were found. For each of its points, from the first pc on, a set has the
-/// numbers of the locks that are needed there; a set is as long as its numbers made it. Of these, `fresh` has those that are not
-/// followed yet.
+/// numbers of the locks that are needed there; a set is as long as its numbers made it.
 #[derive(Drop)]
 pub struct RegionNeeds {
     pub region: Region,
     pub first: u16,
     pub locks: IndexSet<Lock>,
     pub needs: Vec<Bits>,
-    pub fresh: Fresh,
 }
 
 /// The number of a lock among those found, at which it is put in if it is new.
@@ -55,7 +52,7 @@ pub fn number(locks: &mut IndexSet<Lock>, lock: Lock) -> Result<usize, AllocErro
 }
 
 /// Puts a number into the set at a place, and tells whether it is new there.
-fn mark(sets: &mut Vec<Bits>, place: usize, number: usize) -> Result<bool, AllocError>
+pub fn mark(sets: &mut Vec<Bits>, place: usize, number: usize) -> Result<bool, AllocError>
     requires there { place < length sets.old.items }
     requires small { number < 4096 }
     ensures marked { IfOk result (IsMarked sets.old.items sets.new.items place (λ n. n ≡ number)) }
@@ -71,7 +68,7 @@ fn mark(sets: &mut Vec<Bits>, place: usize, number: usize) -> Result<bool, Alloc
 }
 
 /// Puts numbers into the set at a place, and tells whether some are new there.
-fn merge(sets: &mut Vec<Bits>, place: usize, numbers: &Bits) -> Result<bool, AllocError>
+pub fn merge(sets: &mut Vec<Bits>, place: usize, numbers: &Bits) -> Result<bool, AllocError>
     requires there { place < length sets.old.items }
     requires small { (n : ℕ) → IsIn numbers.now n → n < 4096 }
     ensures marked { IfOk result (IsMarked sets.old.items sets.new.items place (IsIn numbers.now)) }
@@ -80,52 +77,6 @@ fn merge(sets: &mut Vec<Bits>, place: usize, numbers: &Bits) -> Result<bool, All
     let set = &mut sets[place];
     make_room(set, numbers.len())?;
     Ok(set.add_all(numbers))
-}
-
-/// Puts a number into the set at a place, and if it is new there, into that of what is to be followed. Tells whether it is new.
-pub fn mark_fresh(
-    needs: &mut Vec<Bits>,
-    fresh: &mut Fresh,
-    place: usize,
-    number: usize,
-) -> Result<bool, AllocError>
-    requires there { place < length needs.old.items }
-    requires room { length fresh.old ≡ length needs.old.items }
-    requires small { number < 4096 }
-    ensures marked { IfOk result (IsMarked needs.old.items needs.new.items place (λ n. n ≡ number)) }
-    ensures fresh { IfOk result (IsFresher needs.old.items fresh.old fresh.new place (λ n. n ≡ number)) }
-    ensures err { OnErr result (AreSome needs.old.items needs.new.items place (λ n. n ≡ number)) }
-{
-    let is_new = mark(needs, place, number)?;
-    if is_new {
-        fresh.put(place, number)?;
-        return Ok(true);
-    }
-    Ok(false)
-}
-
-/// Puts numbers into the set at a place, and those that are new there into that of what is to be followed. Tells whether some are
-/// new.
-pub fn merge_fresh(
-    needs: &mut Vec<Bits>,
-    fresh: &mut Fresh,
-    place: usize,
-    numbers: &Bits,
-) -> Result<bool, AllocError>
-    requires there { place < length needs.old.items }
-    requires room { length fresh.old ≡ length needs.old.items }
-    requires small { (n : ℕ) → IsIn numbers.now n → n < 4096 }
-    ensures marked { IfOk result (IsMarked needs.old.items needs.new.items place (IsIn numbers.now)) }
-    ensures fresh { IfOk result (IsFresher needs.old.items fresh.old fresh.new place (IsIn numbers.now)) }
-    ensures err { OnErr result (AreSome needs.old.items needs.new.items place (IsIn numbers.now)) }
-{
-    let others = numbers.without(&needs[place])?;
-    let is_new = merge(needs, place, numbers)?;
-    if is_new {
-        fresh.put_all(place, others)?;
-        return Ok(true);
-    }
-    Ok(false)
 }
 
 /// Makes the set at least so long.
@@ -235,7 +186,6 @@ impl RegionNeeds {
             first: span.first,
             locks: IndexSet::new(alloc),
             needs: empty_sets(alloc, usize::from(count))?,
-            fresh: Fresh::new(alloc, usize::from(count))?,
         })
     }
 
