@@ -6,7 +6,6 @@ import { bench, changed, comparison, due, examples, isOver, SOON } from './desk.
 import { differenceAt } from './difference.js';
 import { byId, el, lookAtDrawn, renew, setText } from './dom.js';
 import { drawExtras } from './extras.js';
-import { isForbidden } from './lessons.js';
 import { drawComparison, elsewhere } from './panels/comparison.js';
 import { drawText } from './panels/editor.js';
 import { drawEvents } from './panels/events.js';
@@ -21,7 +20,6 @@ import { drawThreads } from './panels/threads.js';
 import { drawTimeline, measureLanes } from './panels/timeline.js';
 import { nextSentence, sentence } from './sentence.js';
 
-const FORBIDDEN = { robin: 'robin', until: 'until', random: 'random', k: 'k', 'threads-wanted': 'threads' }; // by a step of a lesson
 const PLACES = new Set(['rows', 'scroll', 'follow', 'point']); // of the editor alone
 
 export function draw() {
@@ -88,6 +86,7 @@ function drawRun(what) {
 
 function drawSettings() {
   byId('k').value = bench.k;
+  byId('k').disabled = bench.kind !== 'asl';
   byId('threads-wanted').value = bench.threads;
   if (document.activeElement !== byId('example')) byId('example').value = '';
   byId('title').textContent = bench.title;
@@ -99,9 +98,8 @@ function drawButtons() {
   const { position, run } = bench, over = !run || isOver(), length = run ? run.length : 0;
   const off = { first: !position, back: !position, forward: position === length, last: position === length,
     undo: !bench.past.canGoBack, redo: !bench.past.canGoForward,
-    clear: !length, robin: over, random: over, until: over, play: !length, k: bench.kind !== 'asl', 'threads-wanted': false };
+    clear: !length, robin: over, random: over, until: over, play: !length };
   for (const [id, is] of Object.entries(off)) byId(id).disabled = is;
-  for (const [id, word] of Object.entries(FORBIDDEN)) if (isForbidden(word)) byId(id).disabled = true;
   setText(byId('position'), run ? `after ${position} of ${length} events` : 'no run');
   byId('position').dataset.brief = run ? `${position}/${length}` : '';
   Object.assign(byId('slide'), { max: length, value: position, disabled: !run });

@@ -25,10 +25,10 @@ export function keepFragment(fragment) {
   return 'not kept over a reload: too long for the address, and the browser has no store for it';
 }
 
-// What is there when the page is left, as plain data; and the lessons that were opened, if the store has room for them.
-export function leaveBehind(moment, lessons) {
+// What is there when the page is left, as plain data.
+export function leaveBehind(moment) {
   kept.left++;
-  return [lessons, []].some(some => store(LEFT, JSON.stringify({ entry: kept.entry, moment, lessons: some })));
+  return store(LEFT, JSON.stringify({ entry: kept.entry, moment }));
 }
 export const timesLeft = () => kept.left;
 export function forgetLeft() { try { sessionStorage.removeItem(STORE + LEFT); } catch { /* there is no store */ } }
@@ -36,9 +36,9 @@ export function forgetLeft() { try { sessionStorage.removeItem(STORE + LEFT); } 
 // between.) It is given once.
 export function takeLeft() {
   try {
-    const { entry, moment, lessons = [] } = JSON.parse(sessionStorage.getItem(STORE + LEFT)) || {};
+    const { entry, moment } = JSON.parse(sessionStorage.getItem(STORE + LEFT)) || {};
     forgetLeft();
-    return entry && entry === history.state?.entry ? { moment, lessons } : null;
+    return entry && entry === history.state?.entry ? moment : null;
   } catch { return null; }
 }
 function nameEntry() {

@@ -40,22 +40,6 @@ await part('undo brings back a text, a run, threads and a lesson, and redo what 
   check(await run(MADE) === moments.at(-1), 'redo brings back the last: ' + await run(MADE));
 });
 
-await part('undo goes back before each go of several steps, one at a time', async () => {
-  const there = () => run('[workbench.bench.position, workbench.bench.run.length, workbench.bench.threads].join()');
-  await open('#example=bank.asl&k=3&threads=2&steps=0011&at=4');
-  await run("document.getElementById('most').value = 20");
-  const seen = [await there()];
-  for (const name of ['g', 't', 'R', 'r', '0', 'r']) { await key(name); await settled(); seen.push(await there()); }
-  check(new Set(seen).size === 7, 'each goes further: ' + seen.join(' '));
-  for (const i of [5, 3, 2, 1, 0]) {
-    await key('u'); await settled();
-    check(await there() === seen[i], `undo: ${await there()}, not ${seen[i]}`);
-  }
-  check(await run("document.getElementById('undo').disabled"), 'there is nothing more to undo');
-  for (let i = 0; i < 5; i++) { await key('U'); await settled(); }
-  check(await there() === seen.at(-1), `redo brings all again: ${await there()}, not ${seen.at(-1)}`);
-});
-
 await part('fewer threads drop no step for good, and a text that is typed is one undo', async () => {
   await open('#example=counter.asl&k=3&threads=3&steps=001122&at=6');
   await key('T'); check(String(await at()) === '4,4', 'fewer threads');

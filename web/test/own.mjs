@@ -67,7 +67,7 @@ await part('a run goes on under lists by hand, to the fault of the native progra
   for (const name of ['r', 'Home', 'f']) await key(name);
   const schedule = await run('workbench.bench.run.schedule'), lines = asl(['step', '--threads', 2, ...schedule], under).toString().trim().split('\n');
   const [now] = await at(), fault = lines.findIndex(line => / fault /.test(line));
-  check(fault >= 0 && now === fault + 1 && /▲ fault: count is written without a lock; the thread held/.test(await textOf('#say')), `event ${now - 1}, native ${fault}: ${await textOf('#say')}`);
+  check(fault >= 0 && now === fault + 1 && /it writes count and has no lock for that/.test(await textOf('#say')), `event ${now - 1}, native ${fault}: ${await textOf('#say')}`);
   check(Buffer.from(await run('btoa(String.fromCharCode(...workbench.bench.image))'), 'base64').equals(asl(['asm'], under)), 'the image has these lists');
   check(await run("document.getElementById('comparison').hidden"), 'other k are not compared with them');
   await key('u'); await key('u'); await settled();

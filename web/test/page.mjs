@@ -25,6 +25,5 @@ await import('./own.mjs');
 await import('./go.mjs');
 await import('./order.mjs');
 await import('./lessonfiles.mjs');
-await import('./handin.mjs');
 await import('./lessons.mjs');
 await finish();

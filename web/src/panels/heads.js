@@ -29,8 +29,8 @@ function headLabel(bench, thread, t) {
 }
 
 function headWords(bench, thread, t, wait, plan) {
-  if (thread.status !== 'runs') return el('span', { class: 'todo soft' + (plan.step < 38 ? ' one' : '') },
-    thread.status === 'done' ? '✓ done' : ['▲ fault', el('small', {}, bench.names.missing(thread.fault) || thread.fault)]);
+  if (thread.status !== 'runs') return el('span', { class: 'todo soft' },
+    thread.status === 'done' ? '✓ done' : '▲ ' + thread.fault);
   const words = el('code', {}, bench.names.statement(thread.pc));
   const where = el('small', {}, (!bench.asks && outlook(bench, thread, t, wait)) || bench.names.where(thread.pc));
   return el('span', { class: 'todo' + (plan.step < 38 ? ' one' : '') }, words, where);

@@ -5,8 +5,7 @@ import { byId, el, renew, setText, withCode } from '../dom.js';
 import { acquireOf, functionAt, readProgram } from '../program.js';
 import { partsOfText } from '../own.js';
 import { verdictOf } from '../verdict.js';
-import { chosen, isForbidden, isOpened, lesson, presentStep } from '../lessons.js';
-import { openingAt } from '../lessontext.js';
+import { chosen, isForbidden, isOpened, openingAt, lesson, presentStep } from '../lessons.js';
 
 const shown = { is: false, which: '', were: false, enter: false };
 export const showOwn = is => { shown.is = is; };
