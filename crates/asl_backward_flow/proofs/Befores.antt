@@ -1,18 +1,19 @@
 -- The pcs from which control continues to one.
-use Rattle.std.proofs.Common.{◌≡◌, ◌⊎◌, ⊎_elim, ℕ, zero, suc, Bool, ◌+◌, ◌<◌, ◌≤◌, List, [], ◌∷◌, ◌++◌, Some, length, slice_get, inl, inr, ap, sym, subst, ◌∙◌, arith}
+use Rattle.std.proofs.Common.{◌≡◌, ◌⊎◌, ⊎_elim, ℕ, zero, suc, Bool, ◌+◌, ◌<◌, ◌≤◌, List, [], ◌∷◌, ◌++◌, Some, length, slice_get, inl, inr, refl, ap, sym, subst, ◌∙◌, arith}
 use Rattle.std.proofs.lemmas.Bool.Decides.{eqb_tells}
 use Rattle.std.proofs.lemmas.Option.{slice_get_within}
 use Rattle.asl_code.specs.declared.lock.Lock.{Lock}
 use Rattle.asl_lane_sets.specs.NumberSet.{IsIn}
 use Rattle.asl_backward_flow.specs.declared.found.AddFault.{AddFault}
 use Rattle.asl_backward_flow.specs.Graph.{IsEdge}
-use Rattle.asl_backward_flow.specs.Found.{Table, IsAt, IsNamed, list_at, locks_of}
-use Rattle.asl_backward_flow.specs.Follows.{Read, IsRead, IsAtPoint, IsLinkedOf, IsBack, IsChosen, AreBefore, At, Added, Stopped, AddedBelow}
+use Rattle.asl_backward_flow.specs.Found.{Table, HasFact, Grows, IsAt, IsNamed, list_at, locks_of}
+use Rattle.asl_backward_flow.specs.Follows.{Read, IsRead, IsAtPoint, IsLinkedOf, IsBack, IsChosen, IsLinkedAt, IsLinkedBack, AreBefore, At, Added, Stopped, AddedBelow}
 use Rattle.asl_backward_flow.proofs.Adding.{below_more, below_end, below_stopped}
 use Rattle.asl_backward_flow.proofs.Each.{to_point, from_point, at_point}
 use Rattle.asl_backward_flow.proofs.Fronts.{fronts_as, named_later, named_before}
 use Rattle.asl_backward_flow.proofs.Sets.{some_same, at_front, at_push, at_last}
 use Rattle.asl_backward_flow.proofs.SpanLaws.{below_or_at}
+use Rattle.asl_backward_flow.proofs.Steps.{has_still}
 
 nothing : (k q : ℕ) → slice_get {X = ℕ} [] k ≡ Some q → ⊥
 nothing k q e = cc
@@ -104,7 +105,12 @@ each_back r part Such pcs j p q m = (p ≡ part) × (slice_get pcs j ≡ Some q)
 pub linked_as : (r : Read) (p q : ℕ) (Such All : Lock → Type 0) → ((l : Lock) → Such l → All l) → (m : Lock) → IsLinkedOf r p q Such m → IsLinkedOf r p q All m
 linked_as r p q Such All within m h = fronts_as _ _ (λ n k. (k.0, within k.0 k.1, k.2)) m h
 
-module _ (r : Read) (initial now new : Table) (part : ℕ) (set : List Bool) (chosen : IsChosen (locks_of initial part) set) (pcs : List ℕ) (j q : ℕ) (at : slice_get pcs j ≡ Some q) (point : IsAtPoint r part q)
+-- what a lock becomes over each instruction before a pc is what it becomes over one of them
+pub linked_before : (r : Read) (a b : Table) (part pc q : ℕ) → Grows a b → IsAtPoint r part q → IsEdge r.lowered pc q → (d : Lock) → IsLinkedBack r a part pc d → IsLinkedAt r b part q d
+linked_before r a b part pc q grows point edge d done x y m h =
+    subst (λ p. HasFact b p y m) (sym h.0) (subst (λ n. HasFact b part n m) (sym h.1) (has_still a b grows part q m (done part q m (refl, edge, point, h.2))))
+
+module _ (r : Read) (initial now new : Table) (part : ℕ) (set : List Bool) (Done : Lock → Type 0) (chosen : IsChosen (locks_of initial part) set Done) (pcs : List ℕ) (j q : ℕ) (at : slice_get pcs j ≡ Some q) (point : IsAtPoint r part q)
     (so : AddedBelow r initial now (each_back r part (IsNamed (locks_of initial part) set) pcs) j) where
   abbrev First : Lock → Type 0
   First = IsNamed (locks_of initial part) set

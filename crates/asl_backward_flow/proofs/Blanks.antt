@@ -6,7 +6,9 @@ use Rattle.asl_code.specs.declared.lock.Lock.{Lock}
 use Rattle.asl_lane_sets.specs.NumberSet.{IsIn}
 use Rattle.asl_backward_flow.specs.declared.span.Span.{Span}
 use Rattle.asl_backward_flow.specs.declared.region_needs.RegionNeeds.{RegionNeeds}
-use Rattle.asl_backward_flow.specs.Found.{table_of, list_at, first_of, sets_of, HasPoint, IsBlankNeeds, IsBlank}
+use Rattle.asl_backward_flow.specs.Found.{table_of, list_at, first_of, sets_of, open_of, HasPoint, IsBlankNeeds, IsBlank}
+use Rattle.asl_backward_flow.specs.Fresh.{open_from}
+use Rattle.asl_backward_flow.proofs.Keeping.{open_blank}
 use Rattle.asl_backward_flow.proofs.SetNeeds.{mapped_at}
 use Rattle.asl_backward_flow.proofs.Sets.{some_same}
 
@@ -73,11 +75,11 @@ none_named (p ∷ parts) h zero n m e = nothing n (ap (λ l. slice_get l n) (sym
     nothing i t = cc
 none_named (p ∷ parts) h (suc k) n m e = none_named parts (λ j x at. h (suc j) x at) k n m e
 
-none_set : (parts : List RegionNeeds) → ((k : ℕ) (p : RegionNeeds) → slice_get parts k ≡ Some p → (count : ℕ) × (p.needs.items ≡ replicate count []))
-    → (p k n : ℕ) → IsIn (list_at (list_at (map (λ (z : RegionNeeds). z.needs.items) parts) p) k) n → ⊥
-none_set [] h p k n e = cc
-none_set (x ∷ parts) h zero k n e = let is = h 0 x refl in none_in is.0 k n (subst (λ l. IsIn (list_at l k) n) is.1 e)
-none_set (x ∷ parts) h (suc p) k n e = none_set parts (λ j y at. h (suc j) y at) p k n e
+none_set : (sets : RegionNeeds → List (List Bool)) (parts : List RegionNeeds) → ((k : ℕ) (p : RegionNeeds) → slice_get parts k ≡ Some p → (count : ℕ) × (sets p ≡ replicate count []))
+    → (p k n : ℕ) → IsIn (list_at (list_at (map sets parts) p) k) n → ⊥
+none_set sets [] h p k n e = cc
+none_set sets (x ∷ parts) h zero k n e = let is = h 0 x refl in none_in is.0 k n (subst (λ l. IsIn (list_at l k) n) is.1 e)
+none_set sets (x ∷ parts) h (suc p) k n e = none_set sets parts (λ j y at. h (suc j) y at) p k n e
 
 module _ (spans : List Span) (parts : List RegionNeeds) (list : List (ℕ × ℕ)) (none : list ≡ []) (so : AreMade spans (length spans) parts) where
   part_at : (p : ℕ) (s : Span) → slice_get spans p ≡ Some s → (x : RegionNeeds) × (slice_get parts p ≡ Some x) × IsBlankNeeds s x
@@ -102,7 +104,8 @@ module _ (spans : List Span) (parts : List RegionNeeds) (list : List (ℕ × ℕ
     regions = same_maps (λ (z : RegionNeeds). z.region) (λ (s : Span). s.region) parts spans so.count (λ k x at. let made = so.each k x at in (made.0, made.1, made.2.region));
     count = length-map parts (λ (z : RegionNeeds). z.locks.keys) ∙ so.count;
     locks = λ p n m e. none_named parts (λ k x at. (so.each k x at).2.locks) p n m e;
-    sets = λ p q n h. none_set parts (λ k x at. let made = so.each k x at in (made.0.end - made.0.first, made.2.sets)) p h.0 n h.2;
+    sets = λ p q n h. none_set (λ (z : RegionNeeds). z.needs.items) parts (λ k x at. let made = so.each k x at in (made.0.end - made.0.first, made.2.sets)) p h.0 n h.2;
+    fresh = λ p q n h. none_set open_of parts (λ k x at. let made = so.each k x at in (made.0.end - made.0.first, ap (λ l. open_from x.fresh 0 l) made.2.sets ∙ open_blank x.fresh made.2.fresh (made.0.end - made.0.first) 0)) p h.0 n h.2;
     points = λ p q s at first end. point_at p q s at first end;
     list = none;
   }

@@ -14,7 +14,7 @@ use Rattle.asl_backward_flow.specs.declared.found.AddFault.TheVariants.{OutOfMem
 use Rattle.asl_backward_flow.specs.declared.span.Span.{Span}
 use Rattle.asl_backward_flow.specs.Needed.{Needed, Accessed, Linked, Entered, Before, region_of}
 use Rattle.asl_backward_flow.specs.Closed.{Family, IsClosed}
-use Rattle.asl_backward_flow.specs.Found.{Table, HasFact, IsName, IsBlank, locks_of}
+use Rattle.asl_backward_flow.specs.Found.{Table, HasFact, IsName, IsBlank, Waits, NoneWaits, locks_of}
 use Rattle.asl_backward_flow.specs.Follows.{Read, IsRead, IsReady, HasAll, seen, IsAtPoint, IsSeed, Follows, Added, Stopped, IsFollowed, Overflows, IsAll}
 use Rattle.asl_backward_flow.proofs.Leasts.{needed_inside, needed_least}
 use Rattle.asl_backward_flow.proofs.Sound.{seed_needed}
@@ -28,7 +28,7 @@ body_named : (x : code.Region) (g : ℕ) → region_of x ≡ Body g → x ≡ va
 body_named (variant.Body h) g e = ap variant.Body (ap number_of e)
 body_named (variant.Section n) g e = absurd cc
 
-module _ (r : Read) (read : IsRead r) (t : Table) (so : IsFollowed r t []) where
+module _ (r : Read) (read : IsRead r) (t : Table) (so : IsFollowed r t NoneWaits) where
   abbrev Is : Region → ℕ → Lock → Type 0
   Is region q m = Needed r.lowered r.classes r.stores r.k_limit region q m
 
@@ -37,10 +37,7 @@ module _ (r : Read) (read : IsRead r) (t : Table) (so : IsFollowed r t []) where
   FoundToo region q m = Is region q m × ((p : ℕ) (s : Span) → slice_get r.spans p ≡ Some s → region_of s.region ≡ region → HasFact t p q m)
 
   follow : (p q : ℕ) (m : Lock) (x y : ℕ) (n : Lock) → HasFact t p q m → Follows r p q (λ l. m ≡ l) x y n → HasFact t x y n
-  follow p q m x y n has f = ⊎_elim (λ w. absurd (none w.0 _ w.1)) (λ (all : HasAll t (Follows r p q (λ l. m ≡ l))). all x y n f) (so.closed p q m has)
-    where
-      none : (k : ℕ) (g : ℕ × ℕ) → slice_get {X = ℕ × ℕ} [] k ≡ Some g → ⊥
-      none k g e = cc
+  follow p q m x y n has f = ⊎_elim (λ w. absurd w) (λ (all : HasAll t (Follows r p q (λ l. m ≡ l))). all x y n f) (so.closed p q has.0 m has.1 has.2)
 
   point : (region : Region) (f pc p : ℕ) (s : Span) → IsIn r.lowered region f pc → slice_get r.spans p ≡ Some s → region_of s.region ≡ region → (f ≡ s.function) × IsAtPoint r p pc
   point region f pc p s isin there e = let at = (read.spans.each p s there).points f pc (subst (λ x. IsIn r.lowered x f pc) (sym e) isin) in (at.0, (s, there, at.1, at.2))
@@ -139,6 +136,8 @@ blank_ready r t blank = record {
     listed = λ f at. absurd (none at.0 f (ap (λ l. slice_get l at.0) (sym blank.list) ∙ at.1));
     apart = λ p m n a at_m at_n. absurd (blank.locks p m a at_m);
     few = λ p. few_names (locks_of t p) (blank.locks p);
+    found = λ p q n h. absurd (blank.fresh p q n h);
+    awaited = λ p q n h. absurd (blank.fresh p q n h);
   };
 }
   where
@@ -146,14 +145,14 @@ blank_ready r t blank = record {
     none n f e = cc
 
 -- with the seeds alone all that is found waits
-pub followed_begin : (r : Read) (t new : Table) → IsRead r → IsBlank t r.spans → Added r t new (IsSeed r) → IsFollowed r new new.list
+pub followed_begin : (r : Read) (t new : Table) → IsRead r → IsBlank t r.spans → Added r t new (IsSeed r) → IsFollowed r new (Waits new)
 followed_begin r t new read blank x = record {
   ready = x.ready;
   sound = λ p q m h. ⊎_elim (λ o. absurd (no_fact t r.spans blank p q m o)) (λ k. seed_needed r read p q m k) (x.adds.only.facts p q m h);
   names = λ p m h. ⊎_elim (λ o. absurd (no_name t r.spans blank p m o)) (λ k. (k.0, seed_needed r read p k.0 m k.1)) (x.adds.only.names p m h);
   seeds = x.has;
   fronts = fronts_more r t new (IsSeed r) (λ p q m d h k. absurd (no_fact t r.spans blank p q m h)) (seeds_fronted r) x;
-  closed = λ p q m h. ⊎_elim (λ was. absurd (blank.sets p q h.0 was)) (λ l. inl l) (x.lists.fresh p q h.0 h.1);
+  closed = λ p q n m has name. ⊎_elim (λ was. absurd (blank.sets p q n was)) (λ l. inl l) (x.lists.fresh p q n has);
 }
 
 pub seeds_over : (r : Read) (t new : Table) (fault : AddFault) → IsRead r → IsBlank t r.spans → Stopped t new (IsSeed r) fault → (x : Table) × Overflows r x fault
@@ -167,7 +166,7 @@ seeds_over r t new fault read blank x = (
 
 -- an allocation failed before anything was found
 pub refused_at_first : (r : Read) (fault : AddFault) → fault ≡ OutOfMemory → (t : Table) × Overflows r t fault
-refused_at_first r fault is = subst (λ f. (t : Table) × Overflows r t f) (sym is) (record { regions = []; firsts = []; locks = []; sets = []; list = [] }, record { over = tt; names = λ p m h. absurd (none p h.0 m h.1) })
+refused_at_first r fault is = subst (λ f. (t : Table) × Overflows r t f) (sym is) (record { regions = []; firsts = []; locks = []; sets = []; fresh = []; list = [] }, record { over = tt; names = λ p m h. absurd (none p h.0 m h.1) })
   where
     none : (p n : ℕ) (m : Lock) → slice_get (unwrap_or (slice_get {X = List Lock} [] p) []) n ≡ Some m → ⊥
     none p n m e = cc

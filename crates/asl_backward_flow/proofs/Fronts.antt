@@ -93,10 +93,14 @@ module _ (a b : Table) (part : ℕ) (grows : Grows a b) (These : ℕ → Type 0)
   pub all_named : ((n : ℕ) → These n → (m : Lock) × (slice_get (locks_of a part) n ≡ Some m)) → (n : ℕ) → These n → (m : Lock) × (slice_get (locks_of b part) n ≡ Some m)
   all_named named n h = let m = named n h in (m.0, grows.names part n m.0 m.1)
 
-pub chosen_later : (a b : Table) (part : ℕ) → Grows a b → (set : List Bool) → IsChosen (locks_of a part) set → IsChosen (locks_of b part) set
-chosen_later a b part grows set c = record {
+pub chosen_later : (a b : Table) (part : ℕ) → Grows a b → (set : List Bool) (Done Then : Lock → Type 0) → ((d : Lock) → Done d → Then d) → IsChosen (locks_of a part) set Done → IsChosen (locks_of b part) set Then
+chosen_later a b part grows set Done Then still c = record {
   named = all_named a b part grows (IsIn set) c.named;
-  fronts = λ m d h k. named_later a b part grows (IsIn set) d (c.fronts m d (named_before a b part grows (IsIn set) c.named m h) k);
+  fronts = λ m d h k.
+      ⊎_elim
+      (λ n. inl (named_later a b part grows (IsIn set) d n))
+      (λ o. inr (still d o))
+      (c.fronts m d (named_before a b part grows (IsIn set) c.named m h) k);
 }
 
 -- the locks of a list are added, and then their dereferenced prefixes

@@ -3,6 +3,8 @@ mod Sets
 mod ReplacedLists
 mod Tables
 mod Marks
+mod Freshness
+mod Keeping
 mod Rows
 mod CallRows
 mod JumpRows
@@ -22,13 +24,13 @@ mod SpanLaws
 mod Points
 mod Waits
 mod Taking
+mod Nexts
 mod Befores
 -- what locks become over an instruction, at calls and at entries
 mod Masking
 mod Splitting
 mod Linking
 mod Entries
-mod Passing
 -- only what is needed is found, and all of it
 mod Sound
 mod Closing

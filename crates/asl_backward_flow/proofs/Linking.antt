@@ -1,5 +1,5 @@
 -- What locks become over an instruction, or at calls: some at once, the others one by one.
-use Rattle.std.proofs.Common.{◌≡◌, ◌↔◌, ℕ, ◌+◌, ◌≤◌, Bool, List, [], Some, Result, Ok, Err, OnOk, IfErr, length, slice_get, inl, inr, refl, ap, sym, subst, ◌∙◌, arith}
+use Rattle.std.proofs.Common.{◌≡◌, ◌↔◌, ⊎_elim, ℕ, ◌+◌, ◌≤◌, Bool, List, [], Some, Result, Ok, Err, OnOk, IfErr, length, slice_get, inl, inr, refl, ap, sym, subst, ◌∙◌, arith}
 use Rattle.std.specs.List.{Contains}
 use Rattle.std.proofs.lemmas.Option.{slice_get_within, slice_get-get_or, get_or_from_slice_get}
 use Rattle.asl_code.specs.declared.instr.Instr.{Instr}
@@ -10,7 +10,7 @@ use Rattle.asl_backward_flow.specs.declared.found.AddFault.{AddFault}
 use Rattle.asl_backward_flow.specs.declared.found.AddFault.TheVariants.{OutOfMemory}
 use Rattle.asl_backward_flow.specs.declared.span.Span.{Span}
 use Rattle.asl_backward_flow.specs.Found.{Table, HasFact, IsOver, IsWhole, HasNumber, IsNamed, IsListed, Adds, Lists, locks_of}
-use Rattle.asl_backward_flow.specs.Follows.{Read, seen, WithFronts, IsLinkedAlone, IsLinkedOf, IsChosen, Splits, At, IsReady, Added, Stopped, AddedBelow}
+use Rattle.asl_backward_flow.specs.Follows.{Read, seen, WithFronts, IsLinkedAlone, IsLinkedOf, IsChosen, IsLinkedAt, Splits, At, IsReady, Added, Stopped, AddedBelow}
 use Rattle.asl_backward_flow.proofs.Adding.{ready_still, adds_as, added_as, stopped_as, below_more, below_end, below_stopped, below_refused}
 use Rattle.asl_backward_flow.proofs.Fronts.{fronts_as, named_before, all_named}
 use Rattle.asl_backward_flow.specs.declared.masks.Mask.{Mask}
@@ -107,7 +107,7 @@ module _ (r : Read) (part pc : ℕ) (Such : Lock → Type 0) where
   changed_stopped old new fault x = stopped_as old new _ _ fault any_to x
 
 -- those that stay are added at once, and the others are linked
-module _ (r : Read) (a b c : Table) (part pc : ℕ) (set stay : List Bool) (changed : List ℕ) (chosen : IsChosen (locks_of a part) set) (splits : Splits r a part pc set stay changed) where
+module _ (r : Read) (a b c : Table) (part pc : ℕ) (set stay : List Bool) (changed : List ℕ) (chosen : IsChosen (locks_of a part) set (IsLinkedAt r a part pc)) (splits : Splits r a part pc set stay changed) where
   abbrev Set : Lock → Type 0
   Set = IsNamed (locks_of a part) set
 
@@ -169,7 +169,11 @@ module _ (r : Read) (a b c : Table) (part pc : ℕ) (set stay : List Bool) (chan
             let one : IsOne (link (seen r s.span.function) s.instruction l) m =
             subst (λ (i : Instr). IsOne (link (seen r s.span.function) i l) m) code (subst (λ (t : Span). IsOne (link (seen r t.function) k.instruction l) m) span k.one) in
             let of_l : IsOne (dereferenced l) d = subst (λ y. IsOne (dereferenced y) d) (sym (s.stays.itself m one)) o in
-            one_there d d (chosen.fronts l d such of_l) (record { span = s.span; there = s.there; instruction = s.instruction; stands = s.stands; one = s.stays.fronts d of_l })
+            let itself : IsLinkedAlone r part pc d d = record { span = s.span; there = s.there; instruction = s.instruction; stands = s.stands; one = s.stays.fronts d of_l } in
+            ⊎_elim
+            (λ in_set. one_there d d in_set itself)
+            (λ (done : IsLinkedAt r a part pc d). has_still b c x.adds.grows part pc d (has_still a b adds.grows part pc d (done part pc d (refl, refl, inl (d, refl, itself)))))
+            (chosen.fronts l d such of_l)
         | inr gone ↦
             x.has part pc d (refl, refl, inr (m, (l, (such.0, (splits.rest such.0).1 (such.1, gone), adds.grows.names part such.0 l such.2), k), o))
       ]

@@ -10,7 +10,7 @@ use Rattle.asl_backward_flow.specs.declared.masks.Mask.{Mask}
 use Rattle.asl_backward_flow.specs.declared.span.Span.{Span}
 use Rattle.asl_backward_flow.specs.declared.found.AddFault.{AddFault}
 use Rattle.asl_backward_flow.specs.Found.{Table, HasFact, IsOver, IsWhole, IsNamed, Adds, Lists, locks_of}
-use Rattle.asl_backward_flow.specs.Follows.{Read, seen, IsReady, IsChosen, IsLinkedOf, StaysAt, Splits, At, Added, Stopped}
+use Rattle.asl_backward_flow.specs.Follows.{Read, seen, IsReady, IsChosen, IsLinkedAt, IsLinkedOf, StaysAt, Splits, At, Added, Stopped}
 use Rattle.asl_backward_flow.specs.Masked.{AreAllMasks}
 use Rattle.asl_backward_flow.proofs.Linking.{linked_all, all_stay, stay_stopped}
 use Rattle.asl_backward_flow.proofs.Marks.{is_in}
@@ -46,7 +46,7 @@ pub stays_ok : (r : Read) (t : Table) (part pc : ℕ) (s : Span) (i : Instr) →
 stays_ok r t part pc s i there stands given given_is v view_is n m so at = record { span = s; there = there; instruction = i; stands = stands; stays = subst (λ w. Stays w i m) view_is so }
 
 -- none of the locks changes: those that stay are all that is added
-module _ (r : Read) (a b : Table) (part pc : ℕ) (set : List Bool) (chosen : IsChosen (locks_of a part) set) (splits : Splits r a part pc set set [])
+module _ (r : Read) (a b : Table) (part pc : ℕ) (set : List Bool) (chosen : IsChosen (locks_of a part) set (IsLinkedAt r a part pc)) (splits : Splits r a part pc set set [])
     (adds : Adds a b (λ p q m. (p ≡ part) × (q ≡ pc) × IsNamed (locks_of a part) set m)) where
   pub none_ok : IsReady r a → (result : Result Unit AddFault) → OnOk result ((m : Lock) → IsNamed (locks_of a part) set m → HasFact b part pc m) → OnOk result (Lists a b) → OnOk result (IsWhole b)
       → OnOk result (Added r a b (At part pc (IsLinkedOf r part pc (IsNamed (locks_of a part) set))))

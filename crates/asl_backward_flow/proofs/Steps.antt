@@ -21,12 +21,12 @@ pub has_still : (a b : Table) → Grows a b → (p q : ℕ) (m : Lock) → HasFa
 has_still a b g p q m has = (has.0, g.facts p q has.0 has.1, g.names p has.0 m has.2)
 
 pub lists_same : (t : Table) → Lists t t
-lists_same t = record { stay = λ f h. h; fresh = λ p q n h. inl h; less = omega arith }
+lists_same t = record { stay = λ p q n h. h; fresh = λ p q n h. inl h; less = omega arith }
 
 pub lists_on : (a b c : Table) → Lists a b → Lists b c → Lists a c
 lists_on a b c x y = record {
-  stay = λ f h. y.stay f (x.stay f h);
-  fresh = λ p q n h. ⊎_elim (λ k. ⊎_elim (λ o. inl o) (λ l. inr (y.stay _ l)) (x.fresh p q n k)) (λ l. inr l) (y.fresh p q n h);
+  stay = λ p q n h. y.stay p q n (x.stay p q n h);
+  fresh = λ p q n h. ⊎_elim (λ k. ⊎_elim (λ o. inl o) (λ l. inr (y.stay p q n l)) (x.fresh p q n k)) (λ l. inr l) (y.fresh p q n h);
   less = let one = x.less in let two = y.less in omega (arith, one, two);
 }
 

@@ -21,6 +21,7 @@ pub record IsClosed (l : Lowered) (c : Classed) (stores : ℕ → ℕ → Bool) 
       IsOne (accesses (view c stores k_limit f) i) n → K r pc n
   pub linked : (r : Region) (f pc next : ℕ) (i : Instr) (m n : Lock) → IsIn l r f pc → slice_get l.code pc ≡ Some i → FlowsTo i pc next →
       K r next m → IsOne (link (view c stores k_limit f) i m) n → K r pc n
+  -- m is needed at the callee's start; p is m over the registers of the caller; n is p, or its class where the path is too long
   pub entered : (r : Region) (f pc to first g : ℕ) (callee : entry.Function) (m p n : Lock) → IsIn l r f pc → slice_get l.code pc ≡ Some (instr.Call to first g) →
       slice_get l.functions g ≡ Some callee → K (Body g) (start_of l.functions g) m → IsOne (renamed first callee.params m) p →
       IsOne (settle (view c stores k_limit f) p) n → K r pc n

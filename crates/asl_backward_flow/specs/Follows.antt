@@ -16,7 +16,7 @@ use Rattle.asl_backward_flow.specs.declared.region.Region.TheVariants as variant
 use Rattle.asl_backward_flow.specs.declared.span.Span.{Span}
 use Rattle.asl_backward_flow.specs.declared.flow_analysis.FlowAnalysis.{FlowAnalysis}
 use Rattle.asl_backward_flow.specs.declared.found.AddFault.{AddFault}
-use Rattle.asl_backward_flow.specs.Found.{Table, HasPoint, HasFact, IsAt, IsName, IsWhole, IsOver, IsNamed, Adds, Lists, locks_of}
+use Rattle.asl_backward_flow.specs.Found.{Table, HasPoint, Has, HasFact, IsAt, IsName, IsWhole, IsOver, IsNamed, Adds, Lists, locks_of}
 use Rattle.asl_backward_flow.specs.Graph.{HasPc, HasRows, HasCall, IsEdge, IsJump, IsCall}
 use Rattle.asl_backward_flow.specs.Needed.{Needed, region_of}
 use Rattle.asl_backward_flow.specs.Spans.{AreSpans}
@@ -44,6 +44,7 @@ read p = record {
   regions = map (λ r. r.items) p.regions.now;
 }
 
+-- what was read is of a program that was lowered, and says of it what it should
 pub record IsRead (r : Read) : Type 0 where
   pub short : r.k_limit ≤ 8
   pub kept : IsLegalLowering r.lowered
@@ -164,10 +165,18 @@ Follows r part pc Such p q m = IsBack r part pc Such p q m ⊎ IsEntryOf r part 
 abbrev pub HasAll : Table → (ℕ → ℕ → Lock → Type 0) → Type 0
 HasAll t these = (p q : ℕ) (m : Lock) → these p q m → HasFact t p q m
 
--- the numbers are those of locks, and have those of their dereferenced prefixes
-pub record IsChosen (locks : List Lock) (set : List Bool) : Type 0 where
+-- the numbers are those of locks, and have those of their dereferenced prefixes, but for such as are done with
+pub record IsChosen (locks : List Lock) (set : List Bool) (Done : Lock → Type 0) : Type 0 where
   pub named : (n : ℕ) → IsIn set n → (m : Lock) × (slice_get locks n ≡ Some m)
-  pub fronts : (m d : Lock) → IsNamed locks set m → IsOne (dereferenced m) d → IsNamed locks set d
+  pub fronts : (m d : Lock) → IsNamed locks set m → IsOne (dereferenced m) d → IsNamed locks set d ⊎ Done d
+
+-- what the lock becomes over the instruction at the pc is found there; what it becomes over each instruction from which control
+-- continues to the pc is
+abbrev pub IsLinkedAt : Read → Table → ℕ → ℕ → Lock → Type 0
+IsLinkedAt r t part pc d = HasAll t (At part pc (IsLinkedOf r part pc (λ l. d ≡ l)))
+
+abbrev pub IsLinkedBack : Read → Table → ℕ → ℕ → Lock → Type 0
+IsLinkedBack r t part pc d = HasAll t (IsBack r part pc (λ l. d ≡ l))
 
 -- the region needs the lock there
 abbrev pub NeededAt : Read → ℕ → ℕ → Lock → Type 0
@@ -199,15 +208,14 @@ pub record AddedBelow (r : Read) (initial now : Table) (each : ℕ → ℕ → �
   pub lists : Lists initial now
   pub has : (j : ℕ) → j < k → HasAll now (each j)
 
--- the seeds are there, dereferenced prefixes too, and what follows from each fact at a point that does not wait; and all is
--- needed
-pub record IsFollowed (r : Read) (t : Table) (waiting : List (ℕ × ℕ)) : Type 0 where
+-- the seeds are there, dereferenced prefixes too, and what follows from each fact that does not wait; and all is needed
+pub record IsFollowed (r : Read) (t : Table) (Waiting : ℕ → ℕ → ℕ → Type 0) : Type 0 where
   pub ready : IsReady r t
   pub sound : (p q : ℕ) (m : Lock) → HasFact t p q m → NeededAt r p q m
   pub names : (p : ℕ) (m : Lock) → IsName t p m → (q : ℕ) × NeededAt r p q m
   pub seeds : HasAll t (IsSeed r)
   pub fronts : (p q : ℕ) (m d : Lock) → HasFact t p q m → IsOne (dereferenced m) d → HasFact t p q d
-  pub closed : (p q : ℕ) (m : Lock) → HasFact t p q m → IsAt waiting (p, q) ⊎ HasAll t (Follows r p q (λ l. m ≡ l))
+  pub closed : (p q n : ℕ) (m : Lock) → Has t p q n → slice_get (locks_of t p) n ≡ Some m → Waiting p q n ⊎ HasAll t (Follows r p q (λ l. m ≡ l))
 
 -- a region has too many locks, each needed somewhere
 pub record Overflows (r : Read) (t : Table) (fault : AddFault) : Type 0 where

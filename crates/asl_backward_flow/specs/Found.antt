@@ -7,18 +7,24 @@ use Rattle.asl_lock_expr.specs.Links.{IsOne}
 use Rattle.asl_backward_flow.specs.declared.region.Region.{Region}
 use Rattle.asl_backward_flow.specs.declared.span.Span.{Span}
 use Rattle.asl_backward_flow.specs.declared.region_needs.RegionNeeds.{RegionNeeds}
+use Rattle.asl_backward_flow.specs.Fresh.{open_from}
 use Rattle.asl_backward_flow.specs.declared.found.Found.{Found}
 use Rattle.asl_backward_flow.specs.declared.found.AddFault.{AddFault}
 use Rattle.asl_backward_flow.specs.declared.found.AddFault.TheVariants.{Many, OutOfMemory}
 
 -- of each region its name, its first pc, its locks, and for each of its points the set of the numbers of those that are needed
--- there; and the points, as regions and pcs, whose needs are not followed yet
+-- there, and of those that are not followed yet; and the points, as regions and pcs, at which some are not
 pub record Table : Type 0 where
   pub regions : List Region
   pub firsts : List ℕ
   pub locks : List (List Lock)
   pub sets : List (List (List Bool))
+  pub fresh : List (List (List Bool))
   pub list : List (ℕ × ℕ)
+
+-- of each point of a region the numbers of the locks that are not followed there yet
+abbrev pub open_of : RegionNeeds → List (List Bool)
+open_of p = open_from p.fresh 0 p.needs.items
 
 abbrev pub table_of : List RegionNeeds → List (ℕ × ℕ) → Table
 table_of parts list = record {
@@ -26,6 +32,7 @@ table_of parts list = record {
   firsts = map (λ (p : RegionNeeds). p.first) parts;
   locks = map (λ (p : RegionNeeds). p.locks.keys) parts;
   sets = map (λ (p : RegionNeeds). p.needs.items) parts;
+  fresh = map open_of parts;
   list = list;
 }
 
@@ -44,7 +51,7 @@ HasNoneTwice locks = (m n : ℕ) (a : Lock) → slice_get locks m ≡ Some a →
 abbrev pub list_at : {A : Type 0} → List (List A) → ℕ → List A
 list_at lists k = unwrap_or (slice_get lists k) []
 
--- the locks of a region, its first pc, and its sets
+-- the locks of a region, its first pc, its sets, and those of what is not followed yet
 abbrev pub locks_of : Table → ℕ → List Lock
 locks_of t part = list_at t.locks part
 
@@ -54,6 +61,9 @@ first_of t part = unwrap_or (slice_get t.firsts part) 0
 abbrev pub sets_of : Table → ℕ → List (List Bool)
 sets_of t part = list_at t.sets part
 
+abbrev pub fresh_of : Table → ℕ → List (List Bool)
+fresh_of t part = list_at t.fresh part
+
 -- the pc is one of the region
 abbrev pub HasPoint : Table → ℕ → ℕ → Type 0
 HasPoint t part pc = (k : ℕ) × (pc ≡ first_of t part + k) × (k < length (sets_of t part))
@@ -61,6 +71,18 @@ HasPoint t part pc = (k : ℕ) × (pc ≡ first_of t part + k) × (k < length (s
 -- it is found that the region needs the lock with the number there
 abbrev pub Has : Table → ℕ → ℕ → ℕ → Type 0
 Has t part pc number = (k : ℕ) × (pc ≡ first_of t part + k) × IsIn (list_at (sets_of t part) k) number
+
+-- the lock with the number is still to be followed there
+abbrev pub Waits : Table → ℕ → ℕ → ℕ → Type 0
+Waits t part pc number = (k : ℕ) × (pc ≡ first_of t part + k) × IsIn (list_at (fresh_of t part) k) number
+
+-- the same, or it is of a set that was taken off the list with the point
+abbrev pub WaitsOrIsOne : Table → ℕ × ℕ → List Bool → ℕ → ℕ → ℕ → Type 0
+WaitsOrIsOne t point set part pc number = Waits t part pc number ⊎ (((part, pc) ≡ point) × IsIn set number)
+
+-- nothing is to be followed
+abbrev pub NoneWaits : ℕ → ℕ → ℕ → Type 0
+NoneWaits part pc number = ⊥
 
 abbrev pub HasFact : Table → ℕ → ℕ → Lock → Type 0
 HasFact t part pc lock = (n : ℕ) × Has t part pc n × (slice_get (locks_of t part) n ≡ Some lock)
@@ -80,12 +102,14 @@ abbrev pub IsListed : List Lock → List ℕ → Lock → Type 0
 IsListed locks numbers = HasNumber locks (Contains numbers)
 
 -- each number that is found is that of a lock, at a point that is listed something is found, no lock has two numbers, and no
--- region has too many
+-- region has too many; and what is still to be followed is found at a point that is listed
 pub record IsWhole (t : Table) : Type 0 where
   pub named : (part pc n : ℕ) → Has t part pc n → (m : Lock) × (slice_get (locks_of t part) n ≡ Some m)
   pub listed : (f : ℕ × ℕ) → IsAt t.list f → (n : ℕ) × Has t f.0 f.1 n
   pub apart : (part : ℕ) → HasNoneTwice (locks_of t part)
   pub few : (part : ℕ) → length (locks_of t part) ≤ 4096
+  pub found : (part pc n : ℕ) → Waits t part pc n → Has t part pc n
+  pub awaited : (part pc n : ℕ) → Waits t part pc n → IsAt t.list (part, pc)
 
 -- a region has too many locks, none twice
 abbrev pub IsOver : Table → AddFault → Type 0
@@ -98,6 +122,7 @@ pub record IsBlankNeeds (s : Span) (p : RegionNeeds) : Type 0 where
   pub first : p.first ≡ s.first
   pub locks : p.locks.keys ≡ []
   pub sets : p.needs.items ≡ replicate (s.end - s.first) []
+  pub fresh : p.fresh.followed ≡ []
 
 -- nothing is found of the regions
 pub record IsBlank (t : Table) (spans : List Span) : Type 0 where
@@ -105,6 +130,7 @@ pub record IsBlank (t : Table) (spans : List Span) : Type 0 where
   pub count : length t.locks ≡ length spans
   pub locks : (part n : ℕ) (m : Lock) → slice_get (locks_of t part) n ≡ Some m → ⊥
   pub sets : (part pc n : ℕ) → Has t part pc n → ⊥
+  pub fresh : (part pc n : ℕ) → Waits t part pc n → ⊥
   pub points : (part pc : ℕ) (s : Span) → slice_get spans part ≡ Some s → s.first ≤ pc → pc < s.end → HasPoint t part pc
   pub list : t.list ≡ []
 
@@ -146,6 +172,22 @@ pub record IsMarked (old new : List (List Bool)) (place : ℕ) (numbers : ℕ �
   pub some : is_new ≡ true → (n : ℕ) × IsIn (list_at new place) n
   pub less : free_in new + (if is_new then 1 else 0) ≤ free_in old
 
+-- sets of which the one at a place was taken
+pub record IsTakenOut (old new : List (List Bool)) (place : ℕ) : Type 0 where
+  pub rest : (k : ℕ) → k ≢ place → list_at new k ≡ list_at old k
+  pub none : list_at new place ≡ []
+
+-- sets of what is still to be followed, of which the one at a place has those of these numbers that were not found there before
+pub record IsFresher (sets old new : List (List Bool)) (place : ℕ) (numbers : ℕ → Type 0) (is_new : Bool) : Type 0 where
+  pub rest : (k : ℕ) → k ≢ place → list_at new k ≡ list_at old k
+  pub kept : (n : ℕ) → IsIn (list_at old place) n → IsIn (list_at new place) n
+  pub only : (n : ℕ) → IsIn (list_at new place) n → IsIn (list_at old place) n ⊎ ((is_new ≡ true) × numbers n)
+  pub all : (n : ℕ) → numbers n → IsIn (list_at sets place) n ⊎ IsIn (list_at new place) n
+
+-- sets that stayed as they were, or have these numbers at a place
+abbrev pub AreSome : List (List Bool) → List (List Bool) → ℕ → (ℕ → Type 0) → Type 0
+AreSome old new place numbers = (new ≡ old) ⊎ ((b : Bool) × IsMarked old new place numbers b)
+
 -- a list that has an item more, if that is new
 pub record IsPut (old new : List (ℕ × ℕ)) (item : ℕ × ℕ) (is_new : Bool) : Type 0 where
   pub stay : (f : ℕ × ℕ) → IsAt old f → IsAt new f
@@ -179,11 +221,25 @@ pub record Adds (old new : Table) (these : ℕ → ℕ → Lock → Type 0) : Ty
 abbrev pub left : Table → ℕ
 left t = sum_by free_in t.sets + length t.list
 
--- what is listed stays so, and the point of what is new is listed
+-- what is still to be followed stays so, and what is new is to be followed
 pub record Lists (old new : Table) : Type 0 where
-  pub stay : (f : ℕ × ℕ) → IsAt old.list f → IsAt new.list f
-  pub fresh : (part pc n : ℕ) → Has new part pc n → Has old part pc n ⊎ IsAt new.list (part, pc)
+  pub stay : (part pc n : ℕ) → Waits old part pc n → Waits new part pc n
+  pub fresh : (part pc n : ℕ) → Has new part pc n → Has old part pc n ⊎ Waits new part pc n
   pub less : left new ≤ left old
+
+-- the same table, but for what is still to be followed
+abbrev pub with_waiting : Table → List (List (List Bool)) → List (ℕ × ℕ) → Table
+with_waiting t fresh list = record { regions = t.regions; firsts = t.firsts; locks = t.locks; sets = t.sets; fresh = fresh; list = list }
+
+-- a point was taken off the list, with the set of what was still to be followed there
+pub record IsNext (old new : Table) (point : ℕ × ℕ) (set : List Bool) : Type 0 where
+  pub same : new ≡ with_waiting old new.fresh new.list
+  pub whole : IsWhole new
+  pub there : (n : ℕ) × Has new point.0 point.1 n
+  pub within : (n : ℕ) → IsIn set n → Has new point.0 point.1 n
+  pub taken : (n : ℕ) → ¬ Waits new point.0 point.1 n
+  pub waits : (part pc n : ℕ) → Waits old part pc n → WaitsOrIsOne new point set part pc n
+  pub less : left new < left old
 
 -- how far the locks of a list have been added at a pc of a region
 pub record AddsSome (initial now : Table) (part pc : ℕ) (all rest : List Lock) : Type 0 where

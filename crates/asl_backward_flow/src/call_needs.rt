@@ -3,7 +3,6 @@ ghost use Rattle.std.specs.Prelude.{◌≡◌, ◌<◌, ◌↔◌, ◌⊎◌, �
 ghost use Rattle.asl_lane_sets.specs.NumberSet.{IsIn};
 ghost use Rattle.asl_lock_expr.specs.Links.{IsOne};
 ghost use Rattle.asl_backward_flow.specs.Found.{table, locks_of, IsNamed};
-ghost use Rattle.asl_backward_flow.specs.Passed.{ArePassed, IsPassed};
 ghost use Rattle.asl_backward_flow.specs.Entering.{IsEnteredOf, IsCalledAtOf, IsEnteredAt, AreEntered};
 ghost use Rattle.asl_backward_flow.specs.Follows.{read, IsRead, IsReady, IsAtPoint, IsEntered, At, AtCallOf, IsEntryOf, Added, Stopped};
 
@@ -12,21 +11,19 @@ use crate::entered::AllEntered;
 use crate::flow_analysis::FlowAnalysis;
 use crate::found::{AddFault, Found};
 use crate::region::Region;
-use crate::region_needs::make_room;
 use asl_code::{Instr, Lock};
 use asl_lane_sets::Bits;
 use asl_lock_expr::{add_entered, prefixes};
 use std::alloc::{AllocError, Global};
 
-/// Where the pc is the entry of a body, adds what the locks of these numbers become at each call of its function. `passed` has those
-/// of each region that were passed on before, and gets these. `known` is scratch space: what it holds at first does not count.
+/// Where the pc is the entry of a body, adds what the locks of these numbers become at each call of its function. `known` is scratch
+/// space: what it holds at first does not count.
 pub fn add_entry(
     alloc: Global,
     analysis: &FlowAnalysis,
     part: u16,
     pc: u16,
     set: &Bits,
-    passed: &mut Vec<Bits>,
     known: &mut AllEntered,
     found: &mut Found,
 ) -> Result<(), AddFault>
@@ -34,8 +31,6 @@ pub fn add_entry(
     requires ready { IsReady (read analysis.now) (table found.old) }
     requires there { part < length analysis.now.spans.now }
     requires named { (n : ℕ) → IsIn set.now n → (m : _) × (slice_get (locks_of (table found.old) part) n ≡ Some m) }
-    requires passed { ArePassed (read analysis.now) (table found.old) passed.old.items }
-    ensures passed { OnOk result (ArePassed (read analysis.now) (table found.new) passed.new.items) }
     ensures ok { OnOk result (Added (read analysis.now) (table found.old) (table found.new)
         (IsEntryOf (read analysis.now) part pc (IsNamed (locks_of (table found.old) part) set.now))) }
     ensures err { IfErr result (Stopped (table found.old) (table found.new)
@@ -44,41 +39,10 @@ pub fn add_entry(
     let span = analysis.spans[usize::from(part)];
     match span.region {
         Region::Body(function) if pc == span.first => {
-            let passed = &mut passed[usize::from(part)];
-            pass_on(alloc, analysis, part, function, set, passed, known, found)
+            add_all_calls(alloc, analysis, part, function, set, known, found)
         }
         _ => Ok(()),
     }
-}
-
-/// Adds what the locks of these numbers, at the entry of a function, become at each of its calls, but for those that were passed
-/// on before. Then all of them are passed on.
-fn pass_on(
-    alloc: Global,
-    analysis: &FlowAnalysis,
-    part: u16,
-    function: u16,
-    set: &Bits,
-    passed: &mut Bits,
-    known: &mut AllEntered,
-    found: &mut Found,
-) -> Result<(), AddFault>
-    requires analysis { IsRead (read analysis.now) }
-    requires ready { IsReady (read analysis.now) (table found.old) }
-    requires there { part < length analysis.now.spans.now }
-    requires named { (n : ℕ) → IsIn set.now n → (m : _) × (slice_get (locks_of (table found.old) part) n ≡ Some m) }
-    requires passed { IsPassed (read analysis.now) (table found.old) part function passed.old }
-    ensures passed { OnOk result (IsPassed (read analysis.now) (table found.new) part function passed.new) }
-    ensures ok { OnOk result (Added (read analysis.now) (table found.old) (table found.new)
-        (AtCallOf (read analysis.now) function (IsNamed (locks_of (table found.old) part) set.now))) }
-    ensures err { IfErr result (Stopped (table found.old) (table found.new)
-        (AtCallOf (read analysis.now) function (IsNamed (locks_of (table found.old) part) set.now))) }
-{
-    let others = set.without(passed)?;
-    add_all_calls(alloc, analysis, part, function, &others, known, found)?;
-    make_room(passed, set.len())?;
-    passed.add_all(set);
-    Ok(())
 }
 
 /// Adds what the locks of these numbers, at the entry of a function, become at each of its calls.

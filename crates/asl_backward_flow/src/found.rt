@@ -1,11 +1,11 @@
 //! What is found to be needed so far, region by region, and what of it is still to be followed.
-ghost use Rattle.std.specs.Prelude.{◌≡◌, ◌<◌, ◌↔◌, ℕ, true, Some, slice_get, vec_len, IfOk, OnOk, OnErr, IfErr};
+ghost use Rattle.std.specs.Prelude.{◌≡◌, ◌<◌, ◌↔◌, ℕ, true, Some, length, slice_get, vec_len, IfOk, OnOk, OnErr, IfErr, IfSome, IfNone};
 ghost use Rattle.asl_code.specs.declared.lock.Lock.{Lock};
 ghost use Rattle.asl_lane_sets.specs.NumberSet.{IsIn};
 ghost use Rattle.asl_lock_expr.specs.Links.{IsOne};
-ghost use Rattle.asl_backward_flow.specs.Found.{table, locks_of, IsBlank, Has, HasPoint, HasFact, IsNamed, IsWhole, IsOver, Adds, Lists, HasNumbers};
+ghost use Rattle.asl_backward_flow.specs.Found.{table, locks_of, IsBlank, Has, HasPoint, HasFact, IsNamed, IsWhole, IsOver, Adds, Lists, IsNext, HasNumbers};
 
-use crate::region_needs::{RegionNeeds, add_number, mark, merge, number};
+use crate::region_needs::{RegionNeeds, add_number, mark_fresh, merge_fresh, number};
 use crate::span::Span;
 use crate::waiting::Waiting;
 use asl_code::Lock;
@@ -15,7 +15,7 @@ use std::alloc::{AllocError, Global};
 /// The most locks that a region may need.
 const MAX_LOCKS: usize = 4096;
 
-/// The regions with what they are found to need, and the points at which something is needed that is not followed yet. The last
+/// The regions with what they are found to need, and the points at which something of it is not followed yet. The last
 /// is followed first, since locks flow backwards.
 #[derive(Drop)]
 pub struct Found {
@@ -76,7 +76,7 @@ impl Found {
             return Err(AddFault::Many(part));
         }
         let place = usize::from(pc - region.first);
-        let is_new = mark(&mut region.needs, place, number)?;
+        let is_new = mark_fresh(&mut region.needs, &mut region.fresh, place, number)?;
         self.list.put(is_new, (part, pc))?;
         Ok(number)
     }
@@ -96,7 +96,7 @@ impl Found {
     {
         let needing = &mut self.parts[usize::from(part)];
         let place = usize::from(pc - needing.first);
-        let is_new = merge(&mut needing.needs, place, numbers)?;
+        let is_new = merge_fresh(&mut needing.needs, &mut needing.fresh, place, numbers)?;
         self.list.put(is_new, (part, pc))?;
         Ok(())
     }
@@ -143,14 +143,21 @@ impl Found {
         Ok(())
     }
 
-    /// Makes a set that of the numbers of the locks that a region is found to need at a pc.
-    pub fn needs(&self, part: u16, pc: u16, into: &mut Bits) -> Result<(), AllocError>
-        requires there { part < vec_len self.now.parts }
-        requires point { HasPoint (table self.now) part pc }
-        ensures { OnOk result ((n : ℕ) → IsIn into.new n ↔ Has (table self.now) part pc n) }
+    /// Takes the last point off the list, and makes a set that of the numbers that are not followed there yet.
+    pub fn next(&mut self, set: &mut Bits) -> Result<Option<(u16, u16)>, AllocError>
+        requires { IsWhole (table self.old) }
+        ensures some { IfOk result (λ point. IfSome point (λ f. IsNext (table self.old) (table self.new) f set.new)) }
+        ensures none { IfOk result (λ point. IfNone point (length (table self.old).list ≡ 0)) }
+        ensures unchanged { IfOk result (λ point. IfNone point (table self.new ≡ table self.old)) }
+        ensures err { OnErr result ((table self.new).locks ≡ (table self.old).locks) }
     {
-        let region = &self.parts[usize::from(part)];
-        into.copy_from(&region.needs[usize::from(pc - region.first)])
+        let Some(point) = self.list.pop() else {
+            return Ok(None);
+        };
+        let region = &mut self.parts[usize::from(point.0)];
+        let place = usize::from(point.1 - region.first);
+        region.fresh.take(place, &region.needs[place], set)?;
+        Ok(Some(point))
     }
 
     /// The locks of these numbers of a region.

@@ -9,6 +9,7 @@ mod flow;
 mod flow_analysis;
 mod following;
 mod found;
+mod fresh;
 mod graph;
 mod laws;
 mod masks;

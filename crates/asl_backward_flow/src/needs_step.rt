@@ -4,7 +4,7 @@ ghost use Rattle.std.specs.List.{Contains};
 ghost use Rattle.asl_backward_flow.specs.Graph.{IsEdge};
 ghost use Rattle.asl_backward_flow.specs.Found.{table, locks_of, IsNamed, IsListed};
 ghost use Rattle.asl_backward_flow.specs.Masked.{AreAllMasks, LeavesStayingAt};
-ghost use Rattle.asl_backward_flow.specs.Follows.{read, IsRead, IsReady, IsAtPoint, IsLinkedAlone, IsLinkedOf, WithFronts, At, IsBack, AreBefore, IsChosen, Splits, Added, Stopped};
+ghost use Rattle.asl_backward_flow.specs.Follows.{read, IsRead, IsReady, IsAtPoint, IsLinkedAlone, IsLinkedOf, WithFronts, At, IsBack, AreBefore, IsChosen, IsLinkedAt, IsLinkedBack, Splits, Added, Stopped};
 
 use crate::access_needs::{add_with_prefixes, view};
 use crate::flow_analysis::FlowAnalysis;
@@ -31,10 +31,9 @@ pub fn add_back(
     requires ready { IsReady (read analysis.now) (table found.old) }
     requires there { part < length analysis.now.spans.now }
     requires code { pc < length analysis.now.lowering.now.code }
-    requires chosen { IsChosen (locks_of (table found.old) part) scratch.old.set }
+    requires chosen { IsChosen (locks_of (table found.old) part) scratch.old.set (IsLinkedBack (read analysis.now) (table found.old) part pc) }
     requires masks { AreAllMasks (read analysis.now) (table found.old) (map (λ v. v.list.items) scratch.old.masks.items) }
     ensures set { scratch.new.set ≡ scratch.old.set }
-    ensures passed { scratch.new.passed ≡ scratch.old.passed }
     ensures masks { OnOk result (AreAllMasks (read analysis.now) (table found.new) (map (λ v. v.list.items) scratch.new.masks.items)) }
     ensures ok { OnOk result (Added (read analysis.now) (table found.old) (table found.new)
         (IsBack (read analysis.now) part pc (IsNamed (locks_of (table found.old) part) scratch.old.set))) }
@@ -101,10 +100,9 @@ fn add_linked(
     requires point { IsAtPoint (read analysis.now) part pc }
     requires there { part < length analysis.now.spans.now }
     requires code { pc < length analysis.now.lowering.now.code }
-    requires chosen { IsChosen (locks_of (table found.old) part) scratch.old.set }
+    requires chosen { IsChosen (locks_of (table found.old) part) scratch.old.set (IsLinkedAt (read analysis.now) (table found.old) part pc) }
     requires masks { AreAllMasks (read analysis.now) (table found.old) (map (λ v. v.list.items) scratch.old.masks.items) }
     ensures set { scratch.new.set ≡ scratch.old.set }
-    ensures passed { scratch.new.passed ≡ scratch.old.passed }
     ensures pcs { scratch.new.pcs ≡ scratch.old.pcs }
     ensures masks { OnOk result (AreAllMasks (read analysis.now) (table found.new) (map (λ v. v.list.items) scratch.new.masks.items)) }
     ensures ok { OnOk result (Added (read analysis.now) (table found.old) (table found.new)
@@ -142,7 +140,6 @@ fn split_over(
     requires code { pc < length analysis.now.lowering.now.code }
     requires masks { AreAllMasks (read analysis.now) (table found.now) (map (λ v. v.list.items) scratch.old.masks.items) }
     ensures set { scratch.new.set ≡ scratch.old.set }
-    ensures passed { scratch.new.passed ≡ scratch.old.passed }
     ensures pcs { scratch.new.pcs ≡ scratch.old.pcs }
     ensures masks { OnOk result (AreAllMasks (read analysis.now) (table found.now) (map (λ v. v.list.items) scratch.new.masks.items)) }
     ensures none { IfOk result (λ some. some ≡ false → Splits (read analysis.now) (table found.now) part pc scratch.old.set scratch.old.set []) }

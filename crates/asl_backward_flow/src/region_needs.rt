@@ -6,9 +6,11 @@ ghost use Rattle.asl_lane_sets.specs.NumberSet.{IsIn};
 ghost use Rattle.asl_lock_expr.specs.Links.{IsOne};
 ghost use Rattle.asl_lock_expr.specs.Order.{AreInOrder};
 ghost use Rattle.asl_backward_flow.specs.Needed.{IsInNeeds};
-ghost use Rattle.asl_backward_flow.specs.Found.{Numbers, IsMarked, IsNamed, IsBlankNeeds};
+ghost use Rattle.asl_backward_flow.specs.Found.{Numbers, IsMarked, IsFresher, AreSome, IsNamed, IsBlankNeeds};
+ghost use Rattle.asl_backward_flow.specs.Fresh.{open_from};
 ghost use Rattle.asl_backward_flow.specs.Parts.{part};
 
+use crate::fresh::Fresh;
 use crate::region::Region;
 use crate::span::Span;
 use asl_code::{Base, Lock, Op};
@@ -32,13 +34,15 @@ const DIGITS: u64 = 258;
 const KEY_OPS: usize = 2 * HALF_OPS;
 
 /// A region with its locks in the order in which they were found. For each of its points, from the first pc on, a set has the
-/// numbers of the locks that are needed there; a set is as long as its numbers made it.
+/// numbers of the locks that are needed there; a set is as long as its numbers made it. `fresh` says which of these are not
+/// followed yet.
 #[derive(Drop)]
 pub struct RegionNeeds {
     pub region: Region,
     pub first: u16,
     pub locks: IndexSet<Lock>,
     pub needs: Vec<Bits>,
+    pub fresh: Fresh,
 }
 
 /// The number of a lock among those found, at which it is put in if it is new.
@@ -52,7 +56,7 @@ pub fn number(locks: &mut IndexSet<Lock>, lock: Lock) -> Result<usize, AllocErro
 }
 
 /// Puts a number into the set at a place, and tells whether it is new there.
-pub fn mark(sets: &mut Vec<Bits>, place: usize, number: usize) -> Result<bool, AllocError>
+fn mark(sets: &mut Vec<Bits>, place: usize, number: usize) -> Result<bool, AllocError>
     requires there { place < length sets.old.items }
     requires small { number < 4096 }
     ensures marked { IfOk result (IsMarked sets.old.items sets.new.items place (λ n. n ≡ number)) }
@@ -68,7 +72,7 @@ pub fn mark(sets: &mut Vec<Bits>, place: usize, number: usize) -> Result<bool, A
 }
 
 /// Puts numbers into the set at a place, and tells whether some are new there.
-pub fn merge(sets: &mut Vec<Bits>, place: usize, numbers: &Bits) -> Result<bool, AllocError>
+fn merge(sets: &mut Vec<Bits>, place: usize, numbers: &Bits) -> Result<bool, AllocError>
     requires there { place < length sets.old.items }
     requires small { (n : ℕ) → IsIn numbers.now n → n < 4096 }
     ensures marked { IfOk result (IsMarked sets.old.items sets.new.items place (IsIn numbers.now)) }
@@ -77,6 +81,76 @@ pub fn merge(sets: &mut Vec<Bits>, place: usize, numbers: &Bits) -> Result<bool,
     let set = &mut sets[place];
     make_room(set, numbers.len())?;
     Ok(set.add_all(numbers))
+}
+
+/// Puts a number into the set at a place, and tells whether it is new there. Then it is not followed yet.
+pub fn mark_fresh(
+    needs: &mut Vec<Bits>,
+    fresh: &mut Fresh,
+    place: usize,
+    number: usize,
+) -> Result<bool, AllocError>
+    requires there { place < length needs.old.items }
+    requires small { number < 4096 }
+    ensures marked { IfOk result (IsMarked needs.old.items needs.new.items place (λ n. n ≡ number)) }
+    ensures fresh { IfOk result (IsFresher needs.old.items (open_from fresh.old 0 needs.old.items) (open_from fresh.new 0 needs.new.items) place (λ n. n ≡ number)) }
+    ensures err { OnErr result (AreSome needs.old.items needs.new.items place (λ n. n ≡ number)) }
+{
+    let is_new = mark(needs, place, number)?;
+    if !fresh.is_followed(place) {
+        return Ok(is_new);
+    }
+    if is_new {
+        fresh.put(place, number)?;
+        return Ok(true);
+    }
+    Ok(false)
+}
+
+/// Puts numbers into the set at a place, and tells whether some are new there. These are not followed yet.
+pub fn merge_fresh(
+    needs: &mut Vec<Bits>,
+    fresh: &mut Fresh,
+    place: usize,
+    numbers: &Bits,
+) -> Result<bool, AllocError>
+    requires there { place < length needs.old.items }
+    requires small { (n : ℕ) → IsIn numbers.now n → n < 4096 }
+    ensures marked { IfOk result (IsMarked needs.old.items needs.new.items place (IsIn numbers.now)) }
+    ensures fresh { IfOk result (IsFresher needs.old.items (open_from fresh.old 0 needs.old.items) (open_from fresh.new 0 needs.new.items) place (IsIn numbers.now)) }
+    ensures err { OnErr result (AreSome needs.old.items needs.new.items place (IsIn numbers.now)) }
+{
+    if fresh.is_followed(place) {
+        return merge_again(needs, fresh, place, numbers);
+    }
+    let is_new = merge(needs, place, numbers)?;
+    Ok(is_new)
+}
+
+/// The same where the point was followed before.
+fn merge_again(
+    needs: &mut Vec<Bits>,
+    fresh: &mut Fresh,
+    place: usize,
+    numbers: &Bits,
+) -> Result<bool, AllocError>
+    requires there { place < length needs.old.items }
+    requires small { (n : ℕ) → IsIn numbers.now n → n < 4096 }
+    requires again { IsIn fresh.old.followed place }
+    ensures marked { IfOk result (IsMarked needs.old.items needs.new.items place (IsIn numbers.now)) }
+    ensures fresh { IfOk result (IsFresher needs.old.items (open_from fresh.old 0 needs.old.items) (open_from fresh.new 0 needs.new.items) place (IsIn numbers.now)) }
+    ensures err { OnErr result (AreSome needs.old.items needs.new.items place (IsIn numbers.now)) }
+{
+    let mut others = fresh.any_set()?;
+    others.copy_from(numbers)?;
+    others.remove_all(&needs[place]);
+    let is_new = merge(needs, place, numbers)?;
+    if is_new {
+        fresh.put_all(place, others)?;
+        return Ok(true);
+    }
+    fresh.give_back(others)?;
+    Ok(false)
 }
 
 /// Makes the set at least so long.
@@ -102,7 +176,7 @@ pub fn add_number(set: &mut Bits, number: usize) -> Result<(), AllocError>
 }
 
 /// Whether the set has the number; it has none from its length on.
-fn has_number(set: &Bits, number: usize) -> bool
+pub fn has_number(set: &Bits, number: usize) -> bool
     ensures { IsTrue result ↔ IsIn set.now number }
 {
     number < set.len() && set.has(number)
@@ -186,6 +260,7 @@ impl RegionNeeds {
             first: span.first,
             locks: IndexSet::new(alloc),
             needs: empty_sets(alloc, usize::from(count))?,
+            fresh: Fresh::new(alloc),
         })
     }
 

@@ -3,7 +3,6 @@ ghost use Rattle.std.specs.Prelude.{◌≡◌, IfOk, map, replicate, []};
 
 use crate::entered::AllEntered;
 use crate::masks::{Masks, no_masks};
-use crate::region_needs::empty_sets;
 use asl_code::Lock;
 use asl_lane_sets::Bits;
 use std::alloc::{AllocError, Global};
@@ -15,7 +14,7 @@ pub struct Scratch {
     pub masks: Vec<Masks>,
     /// The instructions from which control continues to the point.
     pub pcs: Vec<u16>,
-    /// The numbers of the locks that are needed at the point.
+    /// The numbers of the locks that are followed at the point.
     pub set: Bits,
     /// The numbers of the locks that an instruction may concern.
     pub touched: Bits,
@@ -25,16 +24,13 @@ pub struct Scratch {
     pub changed: Vec<usize>,
     /// What one of these locks becomes.
     pub links: Vec<Lock>,
-    /// For each region, the numbers of the locks at its entry of which each call has what they become there.
-    pub passed: Vec<Bits>,
-    /// What those that are passed on become at the calls.
+    /// What locks at the entry of a body become at the calls of its function.
     pub known: AllEntered,
 }
 
 /// Nothing found yet, of so many regions.
 pub fn no_scratch(alloc: Global, count: usize) -> Result<Scratch, AllocError>
-    ensures masks { IfOk result (λ s. map (λ v. v.list.items) s.masks.items ≡ replicate count []) }
-    ensures passed { IfOk result (λ s. s.passed.items ≡ replicate count []) }
+    ensures { IfOk result (λ s. map (λ v. v.list.items) s.masks.items ≡ replicate count []) }
 {
     Ok(Scratch {
         masks: no_masks(alloc, count)?,
@@ -44,7 +40,6 @@ pub fn no_scratch(alloc: Global, count: usize) -> Result<Scratch, AllocError>
         stay: Bits::new(alloc),
         changed: Vec::new(alloc),
         links: Vec::new(alloc),
-        passed: empty_sets(alloc, count)?,
         known: AllEntered::new(alloc, count)?,
     })
 }

@@ -35,6 +35,7 @@ pub fn spans(alloc: Global, lowering: &Lowering) -> Result<Vec<Span>, AllocError
     Ok(spans)
 }
 
+/// The spans of all sections, by their numbers.
 fn add_sections(lowering: &Lowering, spans: &mut Vec<Span>) -> Result<(), AllocError>
     requires { spans.old.items ≡ [] }
     ensures { OnOk result (AreSections lowering.now spans.new.items (length lowering.now.sections)) }
@@ -45,6 +46,7 @@ fn add_sections(lowering: &Lowering, spans: &mut Vec<Span>) -> Result<(), AllocE
     Ok(())
 }
 
+/// After them the spans of those function bodies that run inside a section.
 fn add_bodies(lowering: &Lowering, spans: &mut Vec<Span>) -> Result<(), AllocError>
     requires { AreSections lowering.now spans.old.items (length lowering.now.sections) }
     ensures { OnOk result (AreSpans lowering.now spans.new.items) }

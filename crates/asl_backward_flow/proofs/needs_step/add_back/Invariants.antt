@@ -11,7 +11,6 @@ invariant-loop-number l = record {
   added : AddedBelow (read l.fn.analysis) (table l.fn.found) (table l.found) (each_back (read l.fn.analysis) l.fn.part (IsNamed (locks_of (table l.fn.found) l.fn.part) l.fn.scratch.set) l.scratch.pcs.items) l.number;
   masks : AreAllMasks (read l.fn.analysis) (table l.found) (map (λ v. v.list.items) l.scratch.masks.items);
   set : l.scratch.set ≡ l.fn.scratch.set;
-  passed : l.scratch.passed ≡ l.fn.scratch.passed;
   before : AreBefore (read l.fn.analysis) l.fn.part l.fn.pc (IsEdge l.fn.analysis.lowering.now l.fn.pc) l.scratch.pcs.items;
   all : length l.scratch.pcs.items ≡ l.number-end;
 }
