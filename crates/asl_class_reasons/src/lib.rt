@@ -14,6 +14,8 @@ mod search;
 mod settle;
 mod step_ends;
 mod straight;
+mod waiting;
+mod waking;
 
 pub use chains::Chains;
 pub use laws::{chains_put_together, straight_chains_put_together};

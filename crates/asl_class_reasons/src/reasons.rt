@@ -58,7 +58,7 @@ pub(crate) fn settled(
 {
     let count = lowering.functions().len() as u32;
     let mut draft = Draft::new(alloc, members(lowering), count)?;
-    settle(&mut draft, owed)?;
+    settle(alloc, &mut draft, owed)?;
     Ok(draft)
 }
 

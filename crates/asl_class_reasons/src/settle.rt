@@ -6,22 +6,49 @@ ghost use Rattle.asl_class_reasons.specs.Draft.{IsSized, IsFounded, IsGrown, Are
 
 use crate::draft::Draft;
 use crate::flow::Owed;
-use std::alloc::AllocError;
+use crate::waking::make_when_woken;
+use std::alloc::{AllocError, Global};
 
-/// Makes all steps that are owed, until they join nothing more.
-pub(crate) fn settle(draft: &mut Draft, owed: &[Owed]) -> Result<(), AllocError>
+/// So many rounds are made before steps wait for what they lack.
+const FEW_ROUNDS: u32 = 4;
+
+/// Makes all steps that are owed, until they join nothing more. Few rounds are enough for most programs; where they are not, each step
+/// waits for what it lacks, so that no program takes many rounds.
+pub(crate) fn settle(alloc: Global, draft: &mut Draft, owed: &[Owed]) -> Result<(), AllocError>
     requires sized { IsSized draft.old }
     requires there { AreThere draft.old owed.now }
     ensures grown { IfOk result (λ _. IsGrown draft.old draft.new) }
     ensures founded { (l : Lowered) → IsFounded l draft.old → AreOf l owed.now → IfOk result (λ _. IsFounded l draft.new) }
     ensures holds { (l : Lowered) → IsFounded l draft.old → AreOf l owed.now → IfOk result (λ _. HoldAll (drafted l draft.new) owed.now) }
 {
+    let mut rounds = 0;
     loop {
         join_all_cells(draft)?;
         if !make_all(draft, owed)? {
             return Ok(());
         }
+        rounds = after_round(alloc, draft, owed, rounds)?;
     }
+}
+
+/// How many rounds there were after one more; after a few, steps wait for what they lack.
+fn after_round(
+    alloc: Global,
+    draft: &mut Draft,
+    owed: &[Owed],
+    rounds: u32,
+) -> Result<u32, AllocError>
+    requires sized { IsSized draft.old }
+    requires there { AreThere draft.old owed.now }
+    ensures grown { IfOk result (λ _. IsGrown draft.old draft.new) }
+    ensures founded { (l : Lowered) → IsFounded l draft.old → AreOf l owed.now → IfOk result (λ _. IsFounded l draft.new) }
+{
+    let more = rounds.saturating_add(1);
+    if more != FEW_ROUNDS {
+        return Ok(more);
+    }
+    make_when_woken(alloc, draft, owed)?;
+    Ok(more)
 }
 
 /// Joins what the cells of members of one class hold.
