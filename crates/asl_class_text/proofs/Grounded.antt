@@ -16,7 +16,7 @@ use Rattle.asl_class_text.specs.declared.told.ToldGrounds.{ToldGrounds}
 use Rattle.asl_class_text.specs.Chains.{IsStraightChain}
 use Rattle.asl_class_text.specs.Classes.{AreOthers, ArePairs}
 use Rattle.asl_class_text.specs.Kinds.{end_of}
-use Rattle.asl_class_text.specs.Grounds.{address_of, is_cells, Meet, IsOf, Tells, Covers, IsOneOf, IsNeeded, AreOnce, AreGrounds}
+use Rattle.asl_class_text.specs.Grounds.{address_of, is_cells, Meet, IsOf, Tells, Covers, IsOneOf, IsNeeded, AreOnce, LeavesOut, AreGrounds}
 use Rattle.asl_class_text.specs.Made.{IsStraightAnywhere, AreStraight, AreStraightGrounds, AreNone, IsChainAt, IsKept, IsFull, IsPut, IsMet, AreSoFar, Grows, IsGone, ArePairsGone, AreGroundsGone}
 use Rattle.asl_class_text.proofs.Paired.{none_there, same_Some}
 
@@ -148,23 +148,29 @@ so_far_put l es most ps ts n before after old new of first next p h =
       once = subst (λ (gs : List ToldGround). AreOnce gs) (sym p.grows) (once_more xs p.ground h.once p.untold);
       size = (let room = p.room in omega arith);
       full = λ e. (let at = h.full (sym p.more ∙ e) in let room = p.room in absurd (omega arith));
+      left = λ e. (let at = h.full (sym p.more ∙ e) in let room = p.room in absurd (omega arith));
     }
   where
     there : (k : ℕ) (g : ToldGround) → slice_get new.items.items k ≡ Some g → slice_get (old.items.items ++ p.ground ∷ []) k ≡ Some g
     there k g e = subst (λ (gs : List ToldGround). slice_get gs k ≡ Some g) p.grows e
 
-so_far_full : (l : Lowered) (es : List Step) (most : ℕ) (ps : List ToldPair) (old new : ToldGrounds) → IsFull most old new → AreSoFar l es most ps old → AreSoFar l es most ps new
-so_far_full l es most ps old new f h =
+-- no ground more, since there is no room
+so_far_full : (l : Lowered) (es : List Step) (most : ℕ) (ps : List ToldPair) (ts : List ToldStep) (n : ℕ) (before after : ToldStep) (old new : ToldGrounds) → IsOneOf ps old.items.items ts → slice_get ts n ≡ Some before → slice_get ts (suc n) ≡ Some after
+    → IsFull l most before after old new → AreSoFar l es most ps old → AreSoFar l es most ps new
+so_far_full l es most ps ts n before after old new of first next f h =
     let back = sym f.same in
     let size = h.size in
     let full = f.full in
     let same : length new.items.items ≡ length old.items.items = ap (λ (gs : List ToldGround). length gs) f.same in
+    let meet : Meet l ts (address_of l before) (address_of l after) = record { at = n; before = before; after = after; first = first; next = next; cells = f.cells; by_one = refl; by_other = refl; two = f.two } in
+    let out : LeavesOut l ps old.items.items = record { chain = ts; one_of = of; one = address_of l before; other = address_of l after; meet = meet; untold = f.untold } in
     record {
       each = subst (λ (gs : List ToldGround). AreStraightGrounds l es gs) back h.each;
       needed = subst (λ (gs : List ToldGround). (k : ℕ) (g : ToldGround) → slice_get gs k ≡ Some g → IsNeeded l ps (take k gs) g) back h.needed;
       once = subst (λ (gs : List ToldGround). AreOnce gs) back h.once;
       size = omega arith;
       full = λ e. omega arith;
+      left = λ e. subst (λ (gs : List ToldGround). LeavesOut l ps gs) back out;
     }
 
 so_far_met : (l : Lowered) (es : List Step) (most : ℕ) (ps : List ToldPair) (ts : List ToldStep) (n : ℕ) (before after : ToldStep) (old new : ToldGrounds) → IsOneOf ps old.items.items ts → slice_get ts n ≡ Some before → slice_get ts (suc n) ≡ Some after
@@ -172,7 +178,7 @@ so_far_met : (l : Lowered) (es : List Step) (most : ℕ) (ps : List ToldPair) (t
 so_far_met l es most ps ts n before after old new of first next met h = elim met [
   | inl k ↦ subst (λ (gs : ToldGrounds). AreSoFar l es most ps gs) (sym k.same) h
   | inr r ↦ elim r [
-    | inl f ↦ so_far_full l es most ps old new f h
+    | inl f ↦ so_far_full l es most ps ts n before after old new of first next f h
     | inr p ↦ so_far_put l es most ps ts n before after old new of first next p h
   ]
 ]
@@ -230,6 +236,7 @@ no_pairs_gone l es most ps gs none whole = record {
     once = λ n k g h e f of. absurd (empty n g e);
     size = (let is : length gs.items.items ≡ 0 = ap (λ (xs : List ToldGround). length xs) none in omega arith);
     full = λ e. absurd (cc);
+    left = λ e. absurd (cc);
   };
   told = λ n k p low e. absurd (omega arith);
 }
@@ -301,7 +308,9 @@ all_gone l es most ps n gs high h =
       once = f.once;
       of_pairs = λ whole k p e. h.pairs.told whole k p (slice_get_within ps k p e) e;
       of_grounds = λ whole k g e. (let there = slice_get_within gs.items.items k g e in let size = f.size in h.told whole k g (omega arith) e);
+      few = f.size;
       full = f.full;
+      left = f.left;
     }
 
 -- ---- the chains of pairs

@@ -1,6 +1,6 @@
 -- What told chains rest on: two steps that come to the same cells, one after the other, do so since the addresses by which they come
 -- there point to one class (docs/ANALYSIS.md, "Why one class").
-use Rattle.std.specs.Prelude.{◌≡◌, ◌≢◌, ◌⊎◌, ℕ, suc, List, Bool, true, false, length, take, Option, None, Some, slice_get}
+use Rattle.std.specs.Prelude.{◌≡◌, ◌≢◌, ◌≤◌, ◌⊎◌, ℕ, suc, List, Bool, true, false, length, take, Option, None, Some, slice_get}
 use Rattle.asl_code.specs.declared.instr.Instr.{Instr}
 use Rattle.asl_code.specs.declared.instr.Instr.TheVariants as instr
 use Rattle.asl_lower.specs.Lowered.{Lowered}
@@ -95,12 +95,23 @@ abbrev pub most_grounds : Bool → ℕ
 most_grounds true = 64
 most_grounds false = 8
 
--- the grounds of the chains of these pairs, and of their own chains: each a chain that is no circle, on which a chain of a pair or of
--- a ground before it rests; each once, and all of them, unless there are more
+-- two steps of the chain of one of these pairs, or of one of these grounds, meet, and no ground of it is told
+pub record LeavesOut (l : Lowered) (ps : List ToldPair) (gs : List ToldGround) : Type 0 where
+  pub chain : List ToldStep
+  pub one_of : IsOneOf ps gs chain
+  pub one : Place
+  pub other : Place
+  pub meet : Meet l chain one other
+  pub untold : ¬ Tells gs one other
+
+-- the grounds of the chains of these pairs, and of their own chains, so many at most: each a chain that is no circle, on which a chain of
+-- a pair or of a ground before it rests; each once, and all of them, unless there are more: then so many are told, and one is left out
 pub record AreGrounds (l : Lowered) (reasons : List Step) (most : ℕ) (ps : List ToldPair) (gs : ToldGrounds) : Type 0 where
   pub each : (n : ℕ) (g : ToldGround) → slice_get gs.items.items n ≡ Some g → IsStraightChain l reasons g.one g.other g.chain.items
   pub needed : (n : ℕ) (g : ToldGround) → slice_get gs.items.items n ≡ Some g → IsNeeded l ps (take n gs.items.items) g
   pub once : AreOnce gs.items.items
   pub of_pairs : gs.more ≡ false → (k : ℕ) (p : ToldPair) → slice_get ps k ≡ Some p → Covers l p.chain.items gs.items.items
   pub of_grounds : gs.more ≡ false → (k : ℕ) (g : ToldGround) → slice_get gs.items.items k ≡ Some g → Covers l g.chain.items gs.items.items
+  pub few : length gs.items.items ≤ most
   pub full : gs.more ≡ true → length gs.items.items ≡ most
+  pub left : gs.more ≡ true → LeavesOut l ps gs.items.items

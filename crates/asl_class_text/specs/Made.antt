@@ -12,7 +12,7 @@ use Rattle.asl_class_text.specs.declared.told.ToldGround.{ToldGround}
 use Rattle.asl_class_text.specs.declared.told.ToldGrounds.{ToldGrounds}
 use Rattle.asl_class_text.specs.Kinds.{end_of}
 use Rattle.asl_class_text.specs.Chains.{IsStraightChain}
-use Rattle.asl_class_text.specs.Grounds.{is_cells, address_of, Meet, IsOf, Tells, IsNeeded, IsOneOf, AreOnce, Covers}
+use Rattle.asl_class_text.specs.Grounds.{is_cells, address_of, Meet, IsOf, Tells, IsNeeded, IsOneOf, AreOnce, Covers, LeavesOut}
 
 -- chains lead from the first member to each of the others, which are further on
 abbrev pub AreJoined : List Step → ℕ → List ℕ → Type 0
@@ -56,10 +56,13 @@ pub record IsKept (l : Lowered) (before after : ToldStep) (old new : ToldGrounds
   pub same : new ≡ old
   pub told : is_cells (end_of before) ≡ true → address_of l before ≢ address_of l after → Tells old.items.items (address_of l before) (address_of l after)
 
-pub record IsFull (most : ℕ) (old new : ToldGrounds) : Type 0 where
+pub record IsFull (l : Lowered) (most : ℕ) (before after : ToldStep) (old new : ToldGrounds) : Type 0 where
   pub same : new.items.items ≡ old.items.items
   pub more : new.more ≡ true
   pub full : most ≤ length old.items.items
+  pub cells : is_cells (end_of before) ≡ true
+  pub two : address_of l before ≢ address_of l after
+  pub untold : ¬ Tells old.items.items (address_of l before) (address_of l after)
 
 pub record IsPut (l : Lowered) (reasons : List Step) (most : ℕ) (before after : ToldStep) (old new : ToldGrounds) : Type 0 where
   pub ground : ToldGround
@@ -74,7 +77,7 @@ pub record IsPut (l : Lowered) (reasons : List Step) (most : ℕ) (before after 
   pub untold : ¬ Tells old.items.items ground.one ground.other
 
 abbrev pub IsMet : Lowered → List Step → ℕ → ToldStep → ToldStep → ToldGrounds → ToldGrounds → Type 0
-IsMet l reasons most before after old new = IsKept l before after old new ⊎ (IsFull most old new ⊎ IsPut l reasons most before after old new)
+IsMet l reasons most before after old new = IsKept l before after old new ⊎ (IsFull l most before after old new ⊎ IsPut l reasons most before after old new)
 
 -- the grounds so far of chains of these pairs, and of their own
 pub record AreSoFar (l : Lowered) (reasons : List Step) (most : ℕ) (ps : List ToldPair) (gs : ToldGrounds) : Type 0 where
@@ -83,6 +86,7 @@ pub record AreSoFar (l : Lowered) (reasons : List Step) (most : ℕ) (ps : List 
   pub once : AreOnce gs.items.items
   pub size : length gs.items.items ≤ most
   pub full : gs.more ≡ true → length gs.items.items ≡ most
+  pub left : gs.more ≡ true → LeavesOut l ps gs.items.items
 
 -- no ground is lost
 pub record Grows (old new : List ToldGround) : Type 0 where
