@@ -15,7 +15,7 @@ use Rattle.asl_emitter.specs.Lists.{IsFree}
 use Rattle.asl_check.specs.declared.fault.CheckFault.{CheckFault}
 use Rattle.asl_check.specs.declared.fault.CheckFault.TheVariants.{Infer, OtherCode, Uncovered, Unguarded}
 use Rattle.asl_check.specs.Checked.{IsUnderOne, reads_of, FirstListsCover, AreGuarded, IsFirstLacking, IsFirstOpen}
-use Rattle.asl_check.specs.Missing.{LacksNeeded, LacksRead, NamesLack, StandsBefore, IsJudgedBefore, IsAmong, AreInTurn, AreAllLacks}
+use Rattle.asl_check.specs.Missing.{LacksNeeded, LacksRead, NamesLack, IsJudgedBefore, IsAmong, AreInTurn, AreAllLacks}
 use Rattle.asl_check.specs.KnownLists.{StandInTurn, AreBare, AreBareNeeds, IsBelow, AreLacksBelow}
 
 -- ---- refusals, one list after the other

@@ -1,5 +1,5 @@
 -- The locks of a list that no lock of another covers, kept one by one.
-use Rattle.std.proofs.Common.{◌≡◌, ◌↔◌, ◌⊎◌, ◌<◌, ◌≤◌, ◌+◌, ℕ, zero, suc, List, [], ◌∷◌, ◌++◌, Some, length, take, get_or, slice_get, refl, ap, sym, ◌∙◌, subst, inl, inr, arith}
+use Rattle.std.proofs.Common.{◌≡◌, ◌↔◌, ◌<◌, ◌≤◌, ◌+◌, ℕ, zero, suc, List, [], ◌∷◌, ◌++◌, Some, length, take, get_or, slice_get, refl, ap, sym, ◌∙◌, subst, inl, inr, arith}
 use Rattle.std.proofs.lemmas.Option.{same_Some}
 use Rattle.std.specs.declared.cmp.Ordering.TheVariants.{Less}
 use Rattle.asl_code.specs.declared.lock.Lock.{Lock}
@@ -10,7 +10,13 @@ use Rattle.asl_emitter.specs.Lists.{Locks, IsReduced}
 use Rattle.asl_emitter.proofs.Reducing.{one_of_more, more_of_one, ones_more}
 use Rattle.asl_check.specs.Checked.{IsUnderOne}
 use Rattle.asl_check.specs.Missing.{StandsBefore}
-use Rattle.asl_check.specs.KnownLists.{StandInTurn, AreBare, AreBareNeeds}
+use Rattle.asl_check.specs.KnownLists.{StandInTurn, AreBare, AreBareNeeds, IsOnceMore}
+use Rattle.std.proofs.Common.{Bool, true, false, ◌||◌, if◌then◌else◌}
+use Rattle.std.proofs.Math.Bool.{or-true}
+use Rattle.std.specs.List.{list_any}
+use Rattle.indexmap.specs.IndexSet.{insert_key}
+use Rattle.asl_code.specs.contracts.lock.LockPartialEq.TheImpl as lock_test
+use Rattle.asl_code.proofs.Same.{same_lock, itself_lock}
 
 -- ---- places in lists
 
@@ -109,4 +115,30 @@ bare_of_free c f list given free bare reduced h = record {
     in_order (a ∷ bare) stand own = (
       (λ b o. (let r = stand.0 b o in before_later free r.0 a b reduced.order r.1 r.2 (own b (inr o)))),
       in_order bare stand.1 (λ b o. own b (inr o)),
+    )
+
+-- ---- a set of locks that are found by their hash
+
+one_found : (a : Lock) (xs : List Lock) → list_any (lock_test.ghosts.eq a) xs ≡ true → IsOne xs a
+one_found a [] h = absurd cc
+one_found a (x ∷ xs) h = by (lock_test.ghosts.eq a x) refl (λ e. one_found a xs (sym (ap (λ c. c || list_any (lock_test.ghosts.eq a) xs) e) ∙ h))
+  where
+    by : (b : Bool) → lock_test.ghosts.eq a x ≡ b → (lock_test.ghosts.eq a x ≡ false → IsOne xs a) → IsOne (x ∷ xs) a
+    by true e rest = inl (sym (same_lock a x e))
+    by false e rest = inr (rest e)
+
+found_one : (a : Lock) (xs : List Lock) → IsOne xs a → list_any (lock_test.ghosts.eq a) xs ≡ true
+found_one a [] o = absurd o
+found_one a (x ∷ xs) (inl e) =
+    ap (λ y. lock_test.ghosts.eq a y || list_any (lock_test.ghosts.eq a) xs) e ∙ ap (λ b. b || list_any (lock_test.ghosts.eq a) xs) (itself_lock a)
+found_one a (x ∷ xs) (inr o) = ap (λ b. lock_test.ghosts.eq a x || b) (found_one a xs o) ∙ or-true (lock_test.ghosts.eq a x)
+
+pub once_more : (old new : List Lock) (a : Lock) → new ≡ insert_key lock_test.ghosts.eq old a → IsOnceMore old a new
+once_more old new a is = by (list_any (lock_test.ghosts.eq a) old) refl
+  where
+    by : (b : Bool) → list_any (lock_test.ghosts.eq a) old ≡ b → IsOnceMore old a new
+    by true e = inl (one_found a old e, is ∙ ap (λ c. if c then old else old ++ a ∷ []) e)
+    by false e = inr (
+      (λ o. (let among = found_one a old o in let never : true ≡ false = sym among ∙ e in cc)),
+      is ∙ ap (λ c. if c then old else old ++ a ∷ []) e,
     )

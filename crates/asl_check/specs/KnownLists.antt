@@ -1,11 +1,13 @@
--- Machinery of the proofs, not of the promise: what is known of lists by the parts of a flow (src/covered.rt, src/lacking.rt).
-use Rattle.std.specs.Prelude.{◌≡◌, ◌<◌, ◌↔◌, ◌⊎◌, ◌+◌, ℕ, List, [], ◌∷◌, Option, Some, length, slice_get}
+-- Machinery of the proofs, not of the promise: what is known of lists by the parts of a flow (src/covered.rt, src/lacking.rt, src/covers.rt, src/bare_locks.rt).
+use Rattle.std.specs.Prelude.{◌≡◌, ◌<◌, ◌↔◌, ◌⊎◌, ◌+◌, ◌++◌, ℕ, List, [], ◌∷◌, Option, None, Some, length, slice_get}
 use Rattle.std.specs.declared.cmp.Ordering.TheVariants.{Less}
 use Rattle.asl_code.specs.declared.lock.Lock.{Lock}
+use Rattle.asl_code.specs.declared.lock.Lock.TheVariants as lock
 use Rattle.asl_lower.specs.declared.section.Section.{Section}
 use Rattle.asl_lower.specs.Lowered.{Lowered}
 use Rattle.asl_lower.specs.Regions.{Inside}
 use Rattle.asl_points_to.specs.Classes.{Classed}
+use Rattle.asl_lock_expr.specs.ClassOf.{class_of}
 use Rattle.asl_lock_expr.specs.Links.{IsOne}
 use Rattle.asl_lock_expr.specs.Order.{lock_cmp, AreInOrder}
 use Rattle.asl_backward_flow.specs.Closed.{Family}
@@ -60,6 +62,16 @@ abbrev pub IsFirstLack : Lowered → Classed → List RegionNeeds → List (List
 IsFirstLack l c parts lists (Uncovered section lock) = IsBare l c parts lists section lock
 IsFirstLack l c parts lists (Unguarded section lock) = AreCovered l c parts lists (length l.sections) × IsFirstOpen l c lists section lock
 IsFirstLack l c parts lists fault = ⊥
+
+-- the class of a lock: the one that it is on, or that of the cell that its expression denotes
+abbrev pub own_class : Classed → ℕ → Lock → Option ℕ
+own_class c f (lock.Root effect) = None
+own_class c f (lock.Class class effect) = Some class
+own_class c f (lock.Expr expr effect) = class_of c f expr
+
+-- the new locks are the old ones with one more behind them, or the same where it is one of them
+abbrev pub IsOnceMore : List Lock → Lock → List Lock → Type 0
+IsOnceMore old lock new = (IsOne old lock × (new ≡ old)) ⊎ ((¬ IsOne old lock) × (new ≡ old ++ lock ∷ []))
 
 -- each of these locks first stands in the list before all later ones
 abbrev pub StandInTurn : List Lock → List Lock → Type 0

@@ -1,20 +1,20 @@
 //! All locks that the list of a section lacks: of those that the section needs, and of those that the list's expressions read.
-ghost use Rattle.std.specs.Prelude.{◌≡◌, ◌+◌, ◌↔◌, IsTrue, IfOk};
+ghost use Rattle.std.specs.Prelude.{◌≡◌, ◌+◌, IfOk, OnOk};
 ghost use Rattle.asl_lower.specs.Regions.{Inside};
-ghost use Rattle.asl_lock_expr.specs.Links.{IsOne};
 ghost use Rattle.asl_backward_flow.specs.Needed.{IsTold};
 ghost use Rattle.asl_emitter.specs.Lists.{IsReduced};
 ghost use Rattle.asl_check.specs.Checked.{reads_of};
-ghost use Rattle.asl_check.specs.KnownLists.{AreBare, AreBareNeeds};
+ghost use Rattle.asl_check.specs.KnownLists.{AreBare, AreBareNeeds, IsOnceMore};
 
-use crate::covers::{DEPTHS, is_under_one};
-use crate::locks::{are_same, copied};
+use crate::covers::{LIKELY, is_under_one};
+use crate::locks::copied;
 use asl_backward_flow::{Flow, Region};
 use asl_code::Lock;
 use asl_emitter::reduce;
 use asl_lock_expr::add_dereferenced;
 use asl_lower::Section;
 use asl_points_to::Classes;
+use indexmap::IndexSet;
 use std::alloc::{AllocError, Global};
 
 /// The locks that the section of a number needs at the pc, but for those that another of these absorbs, in the order of locks.
@@ -43,16 +43,12 @@ fn read_locks(alloc: Global, list: &[Lock]) -> Result<Vec<Lock>, AllocError>
     Ok(reads)
 }
 
-/// Whether the lock is one of these.
-fn is_among(locks: &[Lock], lock: &Lock) -> bool
-    ensures { IsTrue result ↔ IsOne locks.now lock.now }
+/// Puts the lock behind these, unless it is one of them.
+fn add_once(locks: &mut IndexSet<Lock>, lock: Lock) -> Result<(), AllocError>
+    ensures { OnOk result (IsOnceMore locks.old.keys lock locks.new.keys) }
 {
-    for other in locks {
-        if are_same(other, lock) {
-            return true;
-        }
-    }
-    false
+    locks.insert(lock)?;
+    Ok(())
 }
 
 /// Of these locks those that no lock of the list covers, each once, in the order in which they first stand there.
@@ -62,18 +58,16 @@ fn bare_locks(
     function: u16,
     list: &[Lock],
     locks: &[Lock],
-) -> Result<Vec<Lock>, AllocError>
-    ensures { IfOk result (λ v. AreBare classes.now function list.now locks.now v.items) }
+) -> Result<IndexSet<Lock>, AllocError>
+    ensures { IfOk result (λ s. AreBare classes.now function list.now locks.now s.keys) }
 {
-    let mut bare = Vec::new(alloc);
-    let mut likely = [0; DEPTHS];
+    let mut bare = IndexSet::new(alloc);
+    let mut likely = [0; LIKELY];
     for lock in locks {
         if is_under_one(classes, function, list, lock, &mut likely) {
             continue;
         }
-        if !is_among(&bare, lock) {
-            bare.push(copied(lock))?;
-        }
+        add_once(&mut bare, copied(lock))?;
     }
     Ok(bare)
 }
@@ -87,8 +81,8 @@ pub fn bare_needs(
     list: &[Lock],
     flow: &Flow,
     number: u16,
-) -> Result<Vec<Lock>, AllocError>
-    ensures { IfOk result (λ v. AreBareNeeds classes.now section.now.function list.now (IsTold flow.now (Inside number) (section.now.acquire + 1)) v.items) }
+) -> Result<IndexSet<Lock>, AllocError>
+    ensures { IfOk result (λ s. AreBareNeeds classes.now section.now.function list.now (IsTold flow.now (Inside number) (section.now.acquire + 1)) s.keys) }
 {
     let entry = u32::from(section.acquire) + 1;
     let needed = needed_locks(alloc, classes, section.function, flow, number, entry)?;
@@ -101,8 +95,8 @@ pub fn bare_reads(
     classes: &Classes,
     function: u16,
     list: &[Lock],
-) -> Result<Vec<Lock>, AllocError>
-    ensures { IfOk result (λ v. AreBare classes.now function list.now (reads_of list.now) v.items) }
+) -> Result<IndexSet<Lock>, AllocError>
+    ensures { IfOk result (λ s. AreBare classes.now function list.now (reads_of list.now) s.keys) }
 {
     let reads = read_locks(alloc, list)?;
     bare_locks(alloc, classes, function, list, &reads)

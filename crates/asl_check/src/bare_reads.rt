@@ -4,11 +4,12 @@ ghost use Rattle.asl_code.specs.declared.path.Op.TheVariants.{Deref};
 ghost use Rattle.asl_lock_expr.specs.Links.{IsOne, prefixes, dereferenced};
 ghost use Rattle.asl_check.specs.Checked.{AreUnder, IsFirstBare, reads_of};
 
-use crate::covers::{DEPTHS, is_under_one};
+use crate::covers::{LIKELY, is_under_one};
 use crate::locks::read_on;
 use asl_code::{Expr, Lock, Op};
 use asl_points_to::Classes;
 
+/// Whether the operation reads a cell.
 fn is_star(op: Op) -> bool
     ensures { IsTrue result ↔ (op ≡ Deref) }
 {
@@ -24,7 +25,7 @@ fn first_of_expr(
     function: u16,
     list: &[Lock],
     expr: &Expr,
-    likely: &mut [usize; DEPTHS],
+    likely: &mut [usize; LIKELY],
 ) -> Option<Lock>
     ensures { MatchOption result (AreUnder classes.now function list.now (IsOne (prefixes expr.now.base [] expr.now.path)))
         (IsFirstBare classes.now function list.now (prefixes expr.now.base [] expr.now.path)) }
@@ -48,7 +49,7 @@ fn first_of_lock(
     function: u16,
     list: &[Lock],
     lock: &Lock,
-    likely: &mut [usize; DEPTHS],
+    likely: &mut [usize; LIKELY],
 ) -> Option<Lock>
     ensures { MatchOption result (AreUnder classes.now function list.now (IsOne (dereferenced lock.now)))
         (IsFirstBare classes.now function list.now (dereferenced lock.now)) }
@@ -64,7 +65,7 @@ pub fn first_bare_read(classes: &Classes, function: u16, list: &[Lock]) -> Optio
     ensures { MatchOption result (AreUnder classes.now function list.now (IsOne (reads_of list.now)))
         (IsFirstBare classes.now function list.now (reads_of list.now)) }
 {
-    let mut likely = [0; DEPTHS];
+    let mut likely = [0; LIKELY];
     for lock in list {
         if let Some(read) = first_of_lock(classes, function, list, lock, &mut likely) {
             return Some(read);

@@ -7,7 +7,7 @@ ghost use Rattle.asl_emitter.specs.Lists.{IsFree};
 ghost use Rattle.asl_check.specs.Checked.{AreUnder, LacksFirst};
 ghost use Rattle.asl_check.specs.KnownLists.{ComesFirst};
 
-use crate::covers::{DEPTHS, is_under_one};
+use crate::covers::{LIKELY, is_under_one};
 use crate::locks::{absorbs, copied, is_before};
 use asl_backward_flow::{Flow, Region};
 use asl_code::Lock;
@@ -65,7 +65,7 @@ fn first_lacking(
 {
     let locks = flow.locks(place);
     let mut first: Option<usize> = None;
-    let mut likely = [0; DEPTHS];
+    let mut likely = [0; LIKELY];
     for number in 0..locks.len() {
         let lock = &locks[number];
         if !flow.needs(place, pc, number) {

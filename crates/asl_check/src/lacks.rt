@@ -57,12 +57,12 @@ pub fn lacks(
     for (number, section) in lowering.sections().iter().enumerate() {
         let list = lists[number].as_slice();
         let bare = bare_needs(alloc, classes, section, list, flow, number as u16)?;
-        add_uncovered(&mut faults, number as u16, &bare)?;
+        add_uncovered(&mut faults, number as u16, bare.as_slice())?;
     }
     for (place, section) in lowering.sections().iter().enumerate() {
         let list = lists[place].as_slice();
         let bare = bare_reads(alloc, classes, section.function, list)?;
-        add_unguarded(&mut faults, place as u16, &bare)?;
+        add_unguarded(&mut faults, place as u16, bare.as_slice())?;
     }
     Ok(faults)
 }

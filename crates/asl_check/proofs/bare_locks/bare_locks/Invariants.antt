@@ -4,6 +4,6 @@ use Rattle.asl_check.proofs.bare_locks.bare_locks.Given as goal
 
 abbrev pub invariant-loop-lock : goal.invariant-loop-lock
 invariant-loop-lock l = record {
-  kept : AreKept l.classes l.function l.list l.locks l.lock-index l.bare.items;
-  order : StandInTurn l.locks l.bare.items;
+  kept : AreKept l.classes l.function l.list l.locks l.lock-index l.bare.keys;
+  order : StandInTurn l.locks l.bare.keys;
 }

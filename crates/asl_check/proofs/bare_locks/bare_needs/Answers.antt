@@ -15,5 +15,5 @@ returns c =
     let reduced =
     subst (λ n. IsReduced c.args.classes.now f (λ a. IsTold c.args.flow.now (Inside c.args.number) (n + 1) a) free) c.from-entry.ensures c.in_ok-needed.ensures in
     IfOk-weaker c.bare_locks.result _ _
-    (λ v h. bare_of_free c.args.classes.now f c.args.list.now (λ a. IsTold c.args.flow.now (Inside c.args.number) (c.args.section.now.acquire + 1) a) free v.items reduced
-    (subst (λ (xs : List Lock). AreBare c.args.classes.now f c.args.list.now xs v.items) c.deref.ensures.value h)) c.bare_locks.ensures
+    (λ v h. bare_of_free c.args.classes.now f c.args.list.now (λ a. IsTold c.args.flow.now (Inside c.args.number) (c.args.section.now.acquire + 1) a) free v.keys reduced
+    (subst (λ (xs : List Lock). AreBare c.args.classes.now f c.args.list.now xs v.keys) c.deref.ensures.value h)) c.bare_locks.ensures

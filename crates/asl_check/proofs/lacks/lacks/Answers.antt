@@ -1,4 +1,4 @@
-use Rattle.std.proofs.Common.{◌≡◌, ◌+◌, ◌++◌, ℕ, suc, List, Some, length, map, slice_get, get_or, refl, ap, sym, ◌∙◌, subst, arith}
+use Rattle.std.proofs.Common.{◌≡◌, ◌+◌, ◌++◌, suc, List, Some, length, map, slice_get, get_or, refl, ap, sym, ◌∙◌, subst, arith}
 use Rattle.std.proofs.lemmas.Option.{slice_get-get_or, slice_get_read}
 use Rattle.asl_code.specs.declared.lock.Lock.{Lock}
 use Rattle.asl_lower.specs.declared.section.Section.{Section}
@@ -46,14 +46,14 @@ loop-number-preserved c =
     let req = c.requires in
     let listed : List Lock = c.index-lists-number.result in
     let at : slice_get c.args.lists.now n ≡ Some listed = slice_get_read c.args.lists.now (length c.args.lists.now) n listed refl (omega (arith, many, lt, req)) c.index-lists-number.is in
-    let bare : List Lock = c.in_ok-bare.bare.items in
+    let bare : List Lock = c.in_ok-bare.bare.keys in
     let next : s.acquire + 1 ≡ suc s.acquire = omega arith in
     let needs : AreBareNeeds k s.function listed (λ a. IsTold c.args.flow.now (Inside n) (suc s.acquire) a) bare =
     subst (λ q. AreBareNeeds k s.function listed (λ a. IsTold c.args.flow.now (Inside n) q a) bare) next
     (subst (λ (xs : List Lock). AreBareNeeds k s.function xs (λ a. IsTold c.args.flow.now (Inside n) (s.acquire + 1) a) bare) c.as_slice-list.ensures c.in_ok-bare.ensures) in
     let more = needs_more l k (λ r pc a. IsTold c.args.flow.now r pc a) c.args.lists.now n s listed bare there at c.loop-number.faults.items needs c.loop-number.invariant in
     let now : c.add_uncovered.new.faults.items ≡ c.loop-number.faults.items ++ map (λ (a : Lock). Uncovered n a) bare =
-    c.in_ok-add_uncovered.ensures ∙ ap (λ (xs : List Lock). c.loop-number.faults.items ++ map (λ (a : Lock). Uncovered n a) xs) c.deref.ensures.value in
+    c.in_ok-add_uncovered.ensures ∙ ap (λ (xs : List Lock). c.loop-number.faults.items ++ map (λ (a : Lock). Uncovered n a) xs) c.as_slice.ensures.keys in
     subst (λ (fs : List CheckFault). AreLacksBelow l k (λ r pc a. IsTold c.args.flow.now r pc a) c.args.lists.now (n + 1) 0 fs) (sym now) more
 
 pub loop-place-preserved : goal.loop-place-preserved
@@ -70,12 +70,12 @@ loop-place-preserved c =
     let req = c.requires in
     let listed : List Lock = c.index-lists-place.result in
     let at : slice_get c.args.lists.now n ≡ Some listed = slice_get_read c.args.lists.now (length c.args.lists.now) n listed refl (omega (arith, many, lt, req)) c.index-lists-place.is in
-    let bare : List Lock = c.in_ok-bare-2.bare.items in
+    let bare : List Lock = c.in_ok-bare-2.bare.keys in
     let reads : AreBare k s.function listed (reads_of listed) bare =
     subst (λ (xs : List Lock). AreBare k s.function xs (reads_of xs) bare) c.as_slice-list-in-loop-place.ensures c.in_ok-bare-2.ensures in
     let more = reads_more l k (λ r pc a. IsTold c.args.flow.now r pc a) c.args.lists.now n s listed bare there at (length l.sections) c.loop-place.faults.items reads c.loop-place.invariant in
     let now : c.add_unguarded.new.faults.items ≡ c.loop-place.faults.items ++ map (λ (a : Lock). Unguarded n a) bare =
-    c.in_ok-add_unguarded.ensures ∙ ap (λ (xs : List Lock). c.loop-place.faults.items ++ map (λ (a : Lock). Unguarded n a) xs) c.deref-in-loop-place.ensures.value in
+    c.in_ok-add_unguarded.ensures ∙ ap (λ (xs : List Lock). c.loop-place.faults.items ++ map (λ (a : Lock). Unguarded n a) xs) c.as_slice-in-loop-place.ensures.keys in
     subst (λ (fs : List CheckFault). AreLacksBelow l k (λ r pc a. IsTold c.args.flow.now r pc a) c.args.lists.now (length l.sections) (n + 1) fs) (sym now) more
 
 pub returns : goal.returns
