@@ -11,6 +11,7 @@ use Rattle.asl_soundness.specs.Coded.{classed}
 use Rattle.asl_emitter.specs.Inferred.{IsInferred}
 use Rattle.asl_emitter.specs.BuiltImage.{AreFitted}
 use Rattle.asl_emitter.proofs.Making.{made_inferred}
+use Rattle.asl_emitter.proofs.Refusing.{is_accepted}
 use Rattle.asl_explain.specs.declared.explain_analysis.ExplainAnalysis.{ExplainAnalysis}
 use Rattle.asl_explain.specs.declared.explained_value.Listed.{Listed}
 use Rattle.asl_explain.specs.declared.explained_value.Lists.{Lists}
@@ -83,6 +84,7 @@ module _ (source : List ℕ) (k : ℕ) (a : ExplainAnalysis) (of : IsOfSource so
           inferred = with_lists a.lowering a.classes flow.stores k_limit fitted.0 lists flow.tells fitted.2;
         },
         refl,
+        is_accepted of.tree k_limit a.lowering a.classes fitted.0 of.accepted.lowered of.lowers of.classes of.few flow,
       )
   lists_at k_limit (TooManyLocks region) over = record {
     lowered = of.accepted.lowered;

@@ -78,9 +78,10 @@ pub record AreAllEnded (x : Read) (sections : List (List Ended)) : Type 0 where
   pub count : length sections ≡ length x.lowered.sections
   pub each : (section : ℕ) (ended : List Ended) → slice_get sections section ≡ Some ended → AreEnded x section ended
 
--- what the lists are with paths of at most so many operations: those of the inferred image, or a region needs too many locks
+-- what the lists are with paths of at most so many operations: those of the inferred image, where the tree is accepted so, or a region needs
+-- too many locks
 abbrev pub AreListsAt : List Item → ℕ → Lists → Type 0
-AreListsAt tree k_limit (Inferred lists) = (image : Image) × IsInferredFor tree k_limit image × (image.lists ≡ lists)
+AreListsAt tree k_limit (Inferred lists) = (image : Image) × IsInferredFor tree k_limit image × (image.lists ≡ lists) × IsAccepted tree k_limit
 AreListsAt tree k_limit (TooManyLocks region) = IsNotInferred tree k_limit (infer.TooManyLocks region)
 
 -- so for each length from 0 to 8

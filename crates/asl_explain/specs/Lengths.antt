@@ -1,4 +1,5 @@
 -- Machinery of the proofs, not of the promise: needed locks with shorter paths than there may be (src/short_paths.rt).
+-- Where all needed locks are so, longer paths change no list, and the table of k need not infer them.
 use Rattle.std.specs.Prelude.{◌≡◌, ◌<◌, ℕ, List, length, Some, slice_get}
 use Rattle.asl_code.specs.declared.lock.Lock.{Lock}
 use Rattle.asl_code.specs.declared.lock.Lock.TheVariants.{Root, Class, Expr}

@@ -134,7 +134,7 @@ fn lists_text(
     requires count { length lists.now ≡ length analysis.now.lowering.sections }
     ensures { IfOk result (λ text. TellsSections (read analysis.now) lists.now reasoned.now.known.facts all told.now (length analysis.now.lowering.sections) (string_bytes text)) }
 {
-    let places = places_of(alloc, source, &reasoned.known().facts.map)?;
+    let places = places_of(alloc, source, analysis, &reasoned.known().facts.map)?;
     let teller = Teller {
         alloc,
         analysis,

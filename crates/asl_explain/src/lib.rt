@@ -1,6 +1,7 @@
 //! Why the lists of a program are as they are: each lock with the statements that need it, and how it came to the section's start.
 #![tactic(auto)]
 
+mod class_members;
 mod class_reasons;
 mod confirm;
 mod confirm_step;

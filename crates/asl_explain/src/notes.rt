@@ -31,6 +31,7 @@ pub fn note_of(teller: &Teller<'_>, earlier: &Step, step: &Step) -> Result<Strin
 }
 
 impl Teller<'_> {
+    /// The words of a cell, by the names of the region's function.
     fn name_of(&self, region: Region, base: Base, ops: &[Op]) -> Result<String, AllocError> {
         cell_words(
             self.alloc,

@@ -1,8 +1,20 @@
 //! The names of a source, and its statements by their instructions.
 
+use crate::class_members::{Members, members_of};
+use crate::explain_analysis::ExplainAnalysis;
 use asl_map::Map;
 use asl_syntax::Name;
 use std::alloc::{AllocError, Global};
+
+/// A stretch of so many blanks has a place of its own, so that no telling of a statement goes through them.
+const MANY_BLANKS: usize = 64;
+
+/// A stretch of many blanks of a source, from a place up to another.
+#[derive(Clone, Copy, PartialEq, Eq, PartialOrd, Ord)]
+struct Gap {
+    from: usize,
+    to: usize,
+}
 
 /// The names and places of a source.
 #[derive(Drop)]
@@ -10,14 +22,19 @@ pub struct Places<'a> {
     alloc: Global,
     source: &'a [u8],
     pub map: &'a Map,
+    /// What is in each class.
+    pub members: Members,
     /// Where each line begins, but for the first.
     lines: Vec<usize>,
+    /// The stretches of many blanks, in order.
+    gaps: Vec<Gap>,
 }
 
-/// The names and places of a source with this map.
+/// The names and places of an analysed source with this map.
 pub fn places_of<'a>(
     alloc: Global,
     source: &'a [u8],
+    analysis: &ExplainAnalysis,
     map: &'a Map,
 ) -> Result<Places<'a>, AllocError> {
     let mut lines = Vec::new(alloc);
@@ -30,8 +47,32 @@ pub fn places_of<'a>(
         alloc,
         source,
         map,
+        members: members_of(alloc, &analysis.lowering, &analysis.classes, map)?,
         lines,
+        gaps: find_gaps(alloc, source)?,
     })
+}
+
+/// The stretches of many blanks between other bytes of a source, in order.
+fn find_gaps(alloc: Global, source: &[u8]) -> Result<Vec<Gap>, AllocError> {
+    let mut gaps = Vec::new(alloc);
+    let mut from: usize = 0;
+    for (to, byte) in source.iter().enumerate() {
+        if !is_blank(*byte) {
+            if to.saturating_sub(from) >= MANY_BLANKS {
+                gaps.push(Gap { from, to })?;
+            }
+            from = to.saturating_add(1);
+        }
+    }
+    Ok(gaps)
+}
+
+/// The number of the first stretch that does not begin before a place.
+fn first_gap(gaps: &[Gap], place: usize) -> usize {
+    match gaps.binary_search(&Gap { from: place, to: 0 }) {
+        Ok(number) | Err(number) => number,
+    }
 }
 
 /// How many of the places, which rise, are below this one.
@@ -93,11 +134,6 @@ impl Places<'_> {
         }
     }
 
-    /// The class of the objects that are made at a site.
-    pub fn class_of_site(&self, site: u16) -> Option<u16> {
-        self.map.site_classes.get(usize::from(site)).copied()
-    }
-
     /// The line of the statement of an instruction, from 1.
     pub fn line(&self, pc: u16) -> usize {
         match self.map.place(pc) {
@@ -110,31 +146,53 @@ impl Places<'_> {
     pub fn statement(&self, pc: u16) -> Result<String, AllocError> {
         let mut text = String::new(self.alloc);
         if let Some(piece) = self.map.place(pc) {
-            if piece.from <= piece.to && piece.to <= self.source.len() {
-                push_words(&mut text, &self.source[piece.from..piece.to])?;
-            }
+            self.push_statement(&mut text, piece.from, piece.to)?;
+            drop_end(&mut text);
         }
         Ok(text)
     }
-}
 
-/// The bytes without the blanks, semicolons and opening braces at their end.
-fn without_end(bytes: &[u8]) -> &[u8] {
-    let mut rest = bytes;
-    while let Some((last, front)) = rest.split_last() {
-        if is_blank(*last) || *last == b';' || *last == b'{' {
-            rest = front;
+    /// Adds the words of a statement that stands from a place up to another, with one blank between two of them.
+    fn push_statement(&self, text: &mut String, from: usize, to: usize) -> Result<(), AllocError> {
+        let mut from = from;
+        let mut was_blank = false;
+        for number in first_gap(&self.gaps, from)..self.gaps.len() {
+            let gap = self.gaps[number];
+            if gap.from >= to {
+                break;
+            }
+            push_words(text, self.bytes(from, gap.from), was_blank)?;
+            was_blank = true;
+            from = gap.to;
+        }
+        push_words(text, self.bytes(from, to), was_blank)
+    }
+
+    /// The bytes from a place up to another; none where that is before it.
+    fn bytes(&self, from: usize, to: usize) -> &[u8] {
+        if from <= to && to <= self.source.len() {
+            &self.source[from..to]
         } else {
-            break;
+            &[]
         }
     }
-    rest
 }
 
-/// Adds the words of a statement, with one blank between two of them.
-fn push_words(text: &mut String, bytes: &[u8]) -> Result<(), AllocError> {
-    let mut was_blank = false;
-    for byte in without_end(bytes) {
+/// Drops the blanks, semicolons and opening braces at the end of a text.
+fn drop_end(text: &mut String) {
+    for _ in 0..text.len() {
+        match text.as_bytes().last() {
+            Some(last) if is_blank(*last) || *last == b';' || *last == b'{' => {}
+            _ => break,
+        }
+        text.pop();
+    }
+}
+
+/// Adds the words of a part of a statement, with one blank between two of them, and one before the first if there was one.
+fn push_words(text: &mut String, bytes: &[u8], is_behind_blank: bool) -> Result<(), AllocError> {
+    let mut was_blank = is_behind_blank;
+    for byte in bytes {
         if is_blank(*byte) {
             was_blank = true;
         } else {

@@ -63,6 +63,7 @@ fn pad_behind(text: &mut String, len: usize, width: usize) -> Result<(), AllocEr
 }
 
 impl Teller<'_> {
+    /// The words of a lock, by the function's names.
     fn words(&self, function: u16, lock: &Lock) -> Result<String, AllocError> {
         lock_words(self.alloc, self.places.map, function, lock)
     }

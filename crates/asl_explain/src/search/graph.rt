@@ -149,6 +149,7 @@ impl Graph {
         Ok(())
     }
 
+    /// Keeps the table of a region, or drops it.
     fn set_table(&mut self, place: u16, table: Option<RegionTable>) {
         if let Some(slot) = self.tables.get_mut(usize::from(place)) {
             *slot = table;

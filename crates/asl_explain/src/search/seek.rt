@@ -24,6 +24,8 @@ struct Entered {
 struct Best {
     first: First,
     entered: Option<usize>,
+    /// Whether another way to it costs as much.
+    is_tied: bool,
 }
 
 /// What is found in the section itself, and in bodies.
@@ -31,14 +33,28 @@ struct Best {
 struct Joined {
     entered: Vec<Entered>,
     best: Option<Best>,
+    /// Where the statements of each stand.
+    ranges: Vec<Range>,
+    /// The pcs of all statements in order, where some may be found in several ways.
+    pcs: Option<Vec<u16>>,
 }
 
 /// The first of both.
 fn better(best: Option<Best>, first: First, entered: Option<usize>) -> Option<Best> {
-    let new = Best { first, entered };
+    let new = Best {
+        first,
+        entered,
+        is_tied: false,
+    };
     let Some(old) = best else {
         return Some(new);
     };
+    if first.cost == old.first.cost && first.point == old.first.point {
+        return Some(Best {
+            is_tied: true,
+            ..old
+        });
+    }
     let is_before = first.cost < old.first.cost
         || (first.cost == old.first.cost && first.point < old.first.point);
     if is_before { Some(new) } else { Some(old) }
@@ -133,6 +149,7 @@ impl Searcher {
             all: self.statements_from(0)?,
             others: self.statements_from(1)?,
             range: self.range(),
+            pcs: self.pcs()?,
         };
         self.trees.keep(from, tree)
     }
@@ -165,6 +182,15 @@ impl Searcher {
         Ok(statements)
     }
 
+    /// The pcs of the statements that were found.
+    fn pcs(&self) -> Result<Vec<u16>, AllocError> {
+        let mut pcs = Vec::with_capacity(self.alloc, self.search.accesses.len())?;
+        for access in &self.search.accesses {
+            pcs.push(access.point.pc)?;
+        }
+        Ok(pcs)
+    }
+
     /// Where the statements stand that were found.
     fn range(&self) -> Range {
         let mut range = Range {
@@ -178,43 +204,70 @@ impl Searcher {
         range
     }
 
-    /// What is found in the section itself, and in the bodies that it enters, if no statement may be found twice and all is known of the bodies.
+    /// What is found in the section itself, and in the bodies that it enters, if all is known of the bodies, and no two ways to the statement
+    /// that is found first cost as much.
     fn joined(&mut self) -> Result<Option<Joined>, AllocError> {
-        let mut best = None;
-        let mut ranges = Vec::new(self.alloc);
-        let mut entered = Vec::new(self.alloc);
+        let mut joined = Joined {
+            entered: Vec::new(self.alloc),
+            best: None,
+            ranges: Vec::new(self.alloc),
+            pcs: None,
+        };
         if let Some(access) = self.search.accesses.first() {
-            best = better(best, access.first(), None);
-            ranges.push(self.range())?;
+            joined.best = better(None, access.first(), None);
+            joined.ranges.push(self.range())?;
         }
         for place in 0..self.search.entries.len() {
-            let Some(entry) = self.search.entries.get(place).copied() else {
-                continue;
-            };
-            let Some(visit) = self.nodes.leave(entry.number) else {
-                continue;
-            };
-            let Some(tree) = self.trees.number(entry.point) else {
-                return Ok(None);
-            };
-            let Some((first, range)) = self.found_in(tree) else {
-                continue;
-            };
-            let there = First {
-                cost: visit.cost.with(first.cost),
-                point: first.point,
-            };
-            best = better(best, there, Some(entered.len()));
-            ranges.push(range)?;
-            entered.push(Entered {
-                tree,
-                last: visit.last,
-            })?;
+            if let Some(entry) = self.search.entries.get(place).copied() {
+                if !self.join(entry, &mut joined)? {
+                    return Ok(None);
+                }
+            }
         }
-        if overlap(&mut ranges) {
-            return Ok(None);
+        match joined.best {
+            Some(best) if best.is_tied => return Ok(None),
+            _ => {}
         }
-        Ok(Some(Joined { entered, best }))
+        if overlap(&mut joined.ranges) {
+            joined.pcs = Some(self.joined_pcs(&joined.entered)?);
+        }
+        Ok(Some(joined))
+    }
+
+    /// Joins what is found in the body of an entry, if that is known. Says whether it is.
+    fn join(&mut self, entry: Waiting, joined: &mut Joined) -> Result<bool, AllocError> {
+        let Some(visit) = self.nodes.leave(entry.number) else {
+            return Ok(true);
+        };
+        let Some(tree) = self.trees.number(entry.point) else {
+            return Ok(false);
+        };
+        let Some((first, range)) = self.found_in(tree) else {
+            return Ok(true);
+        };
+        let there = First {
+            cost: visit.cost.with(first.cost),
+            point: first.point,
+        };
+        joined.best = better(joined.best, there, Some(joined.entered.len()));
+        joined.ranges.push(range)?;
+        joined.entered.push(Entered {
+            tree,
+            last: visit.last,
+        })?;
+        Ok(true)
+    }
+
+    /// The pcs of the statements of the section itself, and of the bodies that are entered, in order.
+    fn joined_pcs(&self, entered: &[Entered]) -> Result<Vec<u16>, AllocError> {
+        let mut pcs = self.pcs()?;
+        for entered in entered {
+            if let Some(tree) = self.trees.tree(entered.tree) {
+                pcs.extend_from_slice(tree.pcs.as_slice())?;
+            }
+        }
+        pcs.sort_unstable();
+        Ok(pcs)
     }
 
     /// The first statement of a tree, and where all stand, if it has any.
@@ -254,6 +307,14 @@ impl Searcher {
         best: Best,
         without_first: bool,
     ) -> Result<Statements, AllocError> {
+        if let Some(pcs) = &joined.pcs {
+            let left_out = if without_first {
+                Some(best.first.point.pc)
+            } else {
+                None
+            };
+            return Statements::of(self.alloc, pcs, left_out);
+        }
         let own = if without_first && best.entered.is_none() {
             1
         } else {

@@ -23,6 +23,23 @@ impl Statements {
         }
     }
 
+    /// The statements at these pcs, which are in order, each once, perhaps without one of them.
+    pub(crate) fn of(
+        alloc: Global,
+        pcs: &[u16],
+        left_out: Option<u16>,
+    ) -> Result<Statements, AllocError> {
+        let mut statements = Statements::none(alloc);
+        let mut last = left_out;
+        for pc in pcs {
+            if last != Some(*pc) && left_out != Some(*pc) {
+                statements.add(*pc)?;
+            }
+            last = Some(*pc);
+        }
+        Ok(statements)
+    }
+
     /// Adds a statement.
     pub fn add(&mut self, pc: u16) -> Result<(), AllocError> {
         self.count = self.count.saturating_add(1);

@@ -10,8 +10,11 @@ use std::collections::HashMap;
 /// So many changes of trees are kept.
 const MOST_CHANGES: usize = 1048576;
 
-/// What a tree takes besides its changes, as so many of them.
+/// What a tree takes besides its changes and its statements, as so many changes.
 const OWN_CHANGES: usize = 16;
+
+/// So many pcs of statements take as much as a change.
+const PCS_OF_CHANGE: usize = 4;
 
 /// A change of the lock on the way from a body's entry to a statement.
 #[derive(Clone, Copy)]
@@ -47,6 +50,8 @@ pub(crate) struct Tree {
     pub(crate) others: Statements,
     /// Where they stand.
     pub(crate) range: Range,
+    /// The pcs of all statements.
+    pub(crate) pcs: Vec<u16>,
 }
 
 /// What was found, by the first points.
@@ -99,7 +104,8 @@ impl Trees {
 
     /// Keeps what was found from a point on.
     pub(crate) fn keep(&mut self, from: Point, tree: Tree) -> Result<(), AllocError> {
-        let added = tree.turns.len().saturating_add(OWN_CHANGES);
+        let own = OWN_CHANGES.saturating_add(tree.pcs.len() / PCS_OF_CHANGE);
+        let added = tree.turns.len().saturating_add(own);
         self.changes = self.changes.saturating_add(added);
         let number = self.trees.len();
         self.trees.push(tree)?;

@@ -57,6 +57,7 @@ impl Graph {
         }
         let instr = &lowering.code()[pc];
         let view = analysis.view(table.function);
+        // the same lock where it is still needed after the instruction, then those that become it over the instruction
         for next in lowering.successors(point.pc).as_slice() {
             self.add_kept(analysis, &view, instr, point, lock, *next, ways)?;
             self.add_linked(analysis, &view, instr, table, point, lock, *next, ways)?;

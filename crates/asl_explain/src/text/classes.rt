@@ -1,23 +1,15 @@
 //! Why expressions became classes, and what is in a class.
 
+use crate::class_members::Member;
 use crate::explained_value::Listed;
 use crate::search::Statements;
 use crate::text::{MAX_NAMED, Teller, narrow, pad, pad_behind, plural};
 use asl_backward_flow::Region;
-use asl_code::{Instr, Lock};
+use asl_code::Lock;
 use asl_emitter::{MAX_LOCKS, reduce};
 use asl_lower::Section;
 use std::alloc::AllocError;
 use std::fmt::Write;
-
-/// A member of a class.
-#[derive(Clone, Copy)]
-enum Member {
-    /// The global of a number.
-    Global(u16),
-    /// The objects that are made by the `new` at a pc.
-    Site(u16),
-}
 
 impl Teller<'_> {
     /// Adds why expressions became classes, if the list would be too long.
@@ -94,9 +86,7 @@ impl Teller<'_> {
 
     /// Adds the members of a class.
     pub(crate) fn push_members(&self, text: &mut String, class: u16) -> Result<(), AllocError> {
-        let mut members = Vec::new(self.alloc);
-        self.add_globals(class, &mut members)?;
-        self.add_sites(class, &mut members)?;
+        let members = self.places.members.of(class);
         let shown = self.count_shown(members.len());
         text.push_str("{ ")?;
         for (place, member) in members.iter().enumerate() {
@@ -104,32 +94,10 @@ impl Teller<'_> {
                 break;
             }
             text.push_str(between(place))?;
-            self.push_member(text, *member)?;
+            self.push_member(text, member.member)?;
         }
         push_more(text, shown, members.len())?;
         text.push_str(" }")
-    }
-
-    /// Adds the globals of a class.
-    fn add_globals(&self, class: u16, members: &mut Vec<Member>) -> Result<(), AllocError> {
-        for (global, own) in self.analysis.classes.globals().iter().enumerate() {
-            if *own == class {
-                members.push(Member::Global(narrow(global)))?;
-            }
-        }
-        Ok(())
-    }
-
-    /// Adds the statements that make objects of a class.
-    fn add_sites(&self, class: u16, members: &mut Vec<Member>) -> Result<(), AllocError> {
-        for (pc, instr) in self.analysis.lowering.code().iter().enumerate() {
-            if let Instr::New { class: site, .. } = instr {
-                if self.places.class_of_site(*site) == Some(class) {
-                    members.push(Member::Site(narrow(pc)))?;
-                }
-            }
-        }
-        Ok(())
     }
 
     /// Adds a member of a class.
