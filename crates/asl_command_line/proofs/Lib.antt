@@ -1,3 +1,4 @@
+mod Joined
 mod Externs
 mod Values
 mod Named

@@ -21,6 +21,13 @@ more_words all more [] word are is = (more, [], ap (λ (xs : List Text). xs ++ m
 more_words all more (w ∷ words) word are is =
     (are.0, are.1 ++ more, ap (λ (xs : List Text). xs ++ more) are.2 ∙ append_assoc are.0 are.1 more, are.3, more_words are.1 more words word are.4 is)
 
+-- words of two lists, one list after the other
+pub both_ask : (front rest : List Text) (words more : List DebugWord) → AreDebugWords front words → AreDebugWords rest more
+    → AreDebugWords (front ++ rest) (words ++ more)
+both_ask front rest [] more are others = subst (λ (xs : List Text). AreDebugWords xs more) (sym (ap (λ (xs : List Text). xs ++ rest) are)) others
+both_ask front rest (w ∷ words) more are others =
+    (are.0, are.1 ++ rest, ap (λ (xs : List Text). xs ++ rest) are.2 ∙ append_assoc are.0 are.1 rest, are.3, both_ask are.1 rest words more are.4 others)
+
 -- as many more of a list's first words, where the rest of the list is a slice of it
 pub more_first_words : (all : List (Bor Text)) (done count : ℕ) (words new : List DebugWord) (word : DebugWord) → done ≤ length all
     → count ≤ length (take (length all - done) (drop done all)) → AreDebugWords (texts (take done all)) words

@@ -9,3 +9,4 @@ pub mod Words
 pub mod Building
 pub mod Reading
 pub mod Apart
+pub mod HeldTexts

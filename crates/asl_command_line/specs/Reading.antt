@@ -1,5 +1,5 @@
 -- Machinery of the proofs, not of the promise: what private functions answer (src/number_words.rt, src/reading.rt).
-use Rattle.std.specs.Prelude.{◌≡◌, ◌≢◌, ℕ, false, codes, List, [], ◌∷◌, ◌++◌, Option, None, Some, string_bytes}
+use Rattle.std.specs.Prelude.{◌≡◌, ◌≢◌, ℕ, false, codes, List, [], ◌∷◌, Option, None, Some, string_bytes}
 use Rattle.std.specs.List.{Contains}
 use Rattle.clap.specs.Words.{Text}
 use Rattle.clap.specs.declared.error.kind.ErrorKind.{ErrorKind}
@@ -16,7 +16,7 @@ use Rattle.asl_command_line.specs.declared.entry_words.EntriesFault.TheVariants 
 use Rattle.asl_command_line.specs.Number.{AreNumbers, IsNumber}
 use Rattle.asl_command_line.specs.Pages.{IsPageOf}
 use Rattle.asl_command_line.specs.Usage.{SaysWhereHelpIs}
-use Rattle.asl_command_line.specs.Words.{AreDebugWords, IsDebugWord, IsNoWord, TakesNumber}
+use Rattle.asl_command_line.specs.Words.{AreDebugWords, IsDebugWord, IsNoNumberOf, IsNoWordOf, LacksNumber}
 use Rattle.asl_command_line.specs.Names.{is_name}
 
 -- the words are no legal use, as this text says
@@ -36,11 +36,11 @@ abbrev pub IsNamedNumber : List Text → NumbersFault → Type 0
 IsNamedNumber texts (fault.NoNumber word) = Contains texts word.now × ((n : ℕ) → IsNumber word.now n → ⊥)
 IsNamedNumber texts fault.OutOfMemory = Unit {0}
 
--- the word that is named is one of the texts, and no word of the debugger, or no number; or the last text wants a number after it
+-- the word that is named is the first of the texts that is no word of the debugger, or no number; or the last text wants a number after it
 abbrev pub IsNamedWord : List Text → DebugWordsFault → Type 0
-IsNamedWord texts (talk.NoWord word) = Contains texts word.now × IsNoWord word.now
-IsNamedWord texts (talk.NoNumber word) = Contains texts word.now × ((n : ℕ) → IsNumber word.now n → ⊥)
-IsNamedWord texts talk.NumberMissing = (word : Text) × (front : List Text) × (texts ≡ front ++ word ∷ []) × TakesNumber word
+IsNamedWord texts (talk.NoWord word) = IsNoWordOf texts word.now
+IsNamedWord texts (talk.NoNumber word) = IsNoNumberOf texts word.now
+IsNamedWord texts talk.NumberMissing = LacksNumber texts
 IsNamedWord texts talk.OutOfMemory = Unit {0}
 
 -- the limit of paths that the word is

@@ -163,13 +163,44 @@ pub record IsNoWord (name : Text) : Type 0 where
 abbrev pub TakesNumber : Text → Type 0
 TakesNumber name = (name ≡ codes "goto") ⊎ ((name ≡ codes "break") ⊎ (name ≡ codes "clear"))
 
--- the words ask the debugger for nothing; the text names one that is no word of it or no number, or says that the last one wants a number
--- after it
+-- the words ask the debugger for something, or they are none
+abbrev pub AskSomething : List Text → Type 0
+AskSomething words = (asked : List DebugWord) × AreDebugWords words asked
+
+-- the words ask the debugger for nothing, because of this word, which is no word of it: those before it ask for something
+pub record IsNoWordOf (words : List Text) (word : Text) : Type 0 where
+  pub front : List Text
+  pub rest : List Text
+  pub its : words ≡ front ++ word ∷ rest
+  pub before : AskSomething front
+  pub none : IsNoWord word
+
+-- the words ask the debugger for nothing, because of this word, which is no number and stands where one must: those before the two ask for
+-- something
+pub record IsNoNumberOf (words : List Text) (word : Text) : Type 0 where
+  pub front : List Text
+  pub name : Text
+  pub rest : List Text
+  pub its : words ≡ front ++ name ∷ word ∷ rest
+  pub before : AskSomething front
+  pub takes : TakesNumber name
+  pub none : (number : ℕ) → IsNumber word number → ⊥
+
+-- the words ask the debugger for nothing, because the last of them wants a number after it: those before it ask for something
+pub record LacksNumber (words : List Text) : Type 0 where
+  pub front : List Text
+  pub name : Text
+  pub its : words ≡ front ++ name ∷ []
+  pub before : AskSomething front
+  pub takes : TakesNumber name
+
+-- the words ask the debugger for nothing; the text names the first one that is no word of it or no number, or says that the last one wants
+-- a number after it
 abbrev pub TellsNoWord : List Text → Text → Type 0
 TellsNoWord words text =
-    ((word : Text) × Contains words word × IsNoWord word × (text ≡ invalid_text word (codes "<WORD>...") a_word))
-    ⊎ (((word : Text) × Contains words word × ((number : ℕ) → IsNumber word number → ⊥) × (text ≡ invalid_text word (codes "<WORD>...") a_number))
-    ⊎ ((word : Text) × (front : List Text) × (words ≡ front ++ word ∷ []) × TakesNumber word × (text ≡ usage_text (codes "a number is required after the last '<WORD>...'"))))
+    ((word : Text) × IsNoWordOf words word × (text ≡ invalid_text word (codes "<WORD>...") a_word))
+    ⊎ (((word : Text) × IsNoNumberOf words word × (text ≡ invalid_text word (codes "<WORD>...") a_number))
+    ⊎ (LacksNumber words × (text ≡ usage_text (codes "a number is required after the last '<WORD>...'"))))
 
 -- the words ask the debugger for nothing
 abbrev pub AskNothing : List Row → Type 0

@@ -3,27 +3,54 @@ ghost use Rattle.std.specs.Prelude.{◌≡◌, false, IfOk};
 ghost use Rattle.clap.specs.Words.{app_of, new_app, rule_of, with_rule, with_subcommand};
 ghost use Rattle.clap.specs.declared.builder.command.Command.TheViews.{out-Command};
 ghost use Rattle.asl_command_line.specs.Arguments.{asl_app, asm_app, bare_app, c_app, check_app, compile_app, debug_app, diagnose_app, dis_app, explain_app, flag_rule, lists_app, log_app, map_app, needed_rule, replay_app, run_app, step_app, value_rule, values_rule, words_rule};
-ghost use Rattle.asl_command_line.specs.Building.{IsBuilt};
+ghost use Rattle.asl_command_line.specs.Building.{IsBuilt, analyses_added, steps_added, texts_added};
 
 use crate::help;
 use clap::{Arg, ArgAction, Command};
 use std::alloc::{AllocError, Global};
 
-/// The program with its commands.
+/// The program with its commands, in three steps, since a proof about all at once takes minutes.
 pub fn program<'a>(alloc: Global) -> Result<Command<'a>, AllocError>
     ensures { IfOk result (λ command. IsBuilt command asl_app) }
 {
     let command = bare_program(alloc)?;
+    let command = with_analyses(alloc, command)?;
+    let command = with_steps(alloc, command)?;
+    with_texts(alloc, command)
+}
+
+/// The command, with those below it that say what a source needs and why.
+#[inline(never)]
+fn with_analyses<'a>(alloc: Global, command: Command<'a>) -> Result<Command<'a>, AllocError>
+    requires { (out-Command command).has_globals ≡ false }
+    ensures { IfOk result (λ new. IsBuilt new (analyses_added (app_of command.entry))) }
+{
     let command = with_command(command, compile_command(alloc)?)?;
     let command = with_command(command, check_command(alloc)?)?;
     let command = with_command(command, map_command(alloc)?)?;
     let command = with_command(command, explain_command(alloc)?)?;
-    let command = with_command(command, diagnose_command(alloc)?)?;
+    with_command(command, diagnose_command(alloc)?)
+}
+
+/// The command, with those below it that assemble and step an image.
+#[inline(never)]
+fn with_steps<'a>(alloc: Global, command: Command<'a>) -> Result<Command<'a>, AllocError>
+    requires { (out-Command command).has_globals ≡ false }
+    ensures { IfOk result (λ new. IsBuilt new (steps_added (app_of command.entry))) }
+{
     let command = with_command(command, asm_command(alloc)?)?;
     let command = with_command(command, dis_command(alloc)?)?;
     let command = with_command(command, step_command(alloc)?)?;
     let command = with_command(command, run_command(alloc)?)?;
-    let command = with_command(command, replay_command(alloc)?)?;
+    with_command(command, replay_command(alloc)?)
+}
+
+/// The command, with those below it that show a run, and print a source as C and as data.
+#[inline(never)]
+fn with_texts<'a>(alloc: Global, command: Command<'a>) -> Result<Command<'a>, AllocError>
+    requires { (out-Command command).has_globals ≡ false }
+    ensures { IfOk result (λ new. IsBuilt new (texts_added (app_of command.entry))) }
+{
     let command = with_command(command, log_command(alloc)?)?;
     let command = with_command(command, debug_command(alloc)?)?;
     let command = with_command(command, c_command(alloc)?)?;
@@ -44,6 +71,7 @@ fn bare_program<'a>(alloc: Global) -> Result<Command<'a>, AllocError>
     )
 }
 
+/// What `asl compile` takes.
 fn compile_command<'a>(alloc: Global) -> Result<Command<'a>, AllocError>
     ensures { IfOk result (λ command. IsBuilt command compile_app) }
 {
@@ -52,6 +80,7 @@ fn compile_command<'a>(alloc: Global) -> Result<Command<'a>, AllocError>
     with_argument(command, flag(alloc, "text"))
 }
 
+/// What `asl check` takes.
 fn check_command<'a>(alloc: Global) -> Result<Command<'a>, AllocError>
     ensures { IfOk result (λ command. IsBuilt command check_app) }
 {
@@ -60,12 +89,14 @@ fn check_command<'a>(alloc: Global) -> Result<Command<'a>, AllocError>
     with_argument(command, flag(alloc, "all"))
 }
 
+/// What `asl map` takes.
 fn map_command<'a>(alloc: Global) -> Result<Command<'a>, AllocError>
     ensures { IfOk result (λ command. IsBuilt command map_app) }
 {
     named(alloc, "map", "asl map")
 }
 
+/// What `asl explain` takes.
 fn explain_command<'a>(alloc: Global) -> Result<Command<'a>, AllocError>
     ensures { IfOk result (λ command. IsBuilt command explain_app) }
 {
@@ -75,6 +106,7 @@ fn explain_command<'a>(alloc: Global) -> Result<Command<'a>, AllocError>
     with_argument(command, flag(alloc, "classes"))
 }
 
+/// What `asl lists` takes.
 fn lists_command<'a>(alloc: Global) -> Result<Command<'a>, AllocError>
     ensures { IfOk result (λ command. IsBuilt command lists_app) }
 {
@@ -83,6 +115,7 @@ fn lists_command<'a>(alloc: Global) -> Result<Command<'a>, AllocError>
     with_argument(command, values(alloc, "entry", "F"))
 }
 
+/// What `asl diagnose` takes.
 fn diagnose_command<'a>(alloc: Global) -> Result<Command<'a>, AllocError>
     ensures { IfOk result (λ command. IsBuilt command diagnose_app) }
 {
@@ -92,6 +125,7 @@ fn diagnose_command<'a>(alloc: Global) -> Result<Command<'a>, AllocError>
     with_argument(command, flag(alloc, "all"))
 }
 
+/// What `asl c` takes.
 fn c_command<'a>(alloc: Global) -> Result<Command<'a>, AllocError>
     ensures { IfOk result (λ command. IsBuilt command c_app) }
 {
@@ -102,24 +136,28 @@ fn c_command<'a>(alloc: Global) -> Result<Command<'a>, AllocError>
     with_argument(command, values(alloc, "extern", "F=NAME"))
 }
 
+/// What `asl asm` takes.
 fn asm_command<'a>(alloc: Global) -> Result<Command<'a>, AllocError>
     ensures { IfOk result (λ command. IsBuilt command asm_app) }
 {
     named(alloc, "asm", "asl asm")
 }
 
+/// What `asl dis` takes.
 fn dis_command<'a>(alloc: Global) -> Result<Command<'a>, AllocError>
     ensures { IfOk result (λ command. IsBuilt command dis_app) }
 {
     named(alloc, "dis", "asl dis")
 }
 
+/// What `asl replay` takes.
 fn replay_command<'a>(alloc: Global) -> Result<Command<'a>, AllocError>
     ensures { IfOk result (λ command. IsBuilt command replay_app) }
 {
     named(alloc, "replay", "asl replay")
 }
 
+/// What `asl step` takes.
 fn step_command<'a>(alloc: Global) -> Result<Command<'a>, AllocError>
     ensures { IfOk result (λ command. IsBuilt command step_app) }
 {
@@ -129,6 +167,7 @@ fn step_command<'a>(alloc: Global) -> Result<Command<'a>, AllocError>
     with_argument(command, words(alloc, "schedule", "T"))
 }
 
+/// What `asl run` takes.
 fn run_command<'a>(alloc: Global) -> Result<Command<'a>, AllocError>
     ensures { IfOk result (λ command. IsBuilt command run_app) }
 {
@@ -139,6 +178,7 @@ fn run_command<'a>(alloc: Global) -> Result<Command<'a>, AllocError>
     with_argument(command, flag(alloc, "record"))
 }
 
+/// What `asl log` takes.
 fn log_command<'a>(alloc: Global) -> Result<Command<'a>, AllocError>
     ensures { IfOk result (λ command. IsBuilt command log_app) }
 {
@@ -146,6 +186,7 @@ fn log_command<'a>(alloc: Global) -> Result<Command<'a>, AllocError>
     with_argument(command, flag(alloc, "trace"))
 }
 
+/// What `asl debug` takes.
 fn debug_command<'a>(alloc: Global) -> Result<Command<'a>, AllocError>
     ensures { IfOk result (λ command. IsBuilt command debug_app) }
 {
@@ -157,8 +198,7 @@ fn debug_command<'a>(alloc: Global) -> Result<Command<'a>, AllocError>
 fn named<'a>(alloc: Global, name: &'a str, whole_name: &'a str) -> Result<Command<'a>, AllocError>
     ensures { IfOk result (λ command. IsBuilt command (new_app name.entry.now)) }
 {
-    let command = Command::new(alloc, name).bin_name(whole_name)?;
-    Ok(command)
+    Command::new(alloc, name).bin_name(whole_name)
 }
 
 /// The command, with one more below it.
@@ -167,8 +207,7 @@ fn with_command<'a>(command: Command<'a>, sub: Command<'a>) -> Result<Command<'a
     requires sub_plain { (out-Command sub).has_globals ≡ false }
     ensures { IfOk result (λ new. IsBuilt new (with_subcommand (app_of command.entry) (app_of sub.entry).top)) }
 {
-    let new = command.subcommand(sub)?;
-    Ok(new)
+    command.subcommand(sub)
 }
 
 /// The command, with one more argument.
@@ -177,8 +216,7 @@ fn with_argument<'a>(command: Command<'a>, argument: Arg<'a>) -> Result<Command<
     requires own { argument.global ≡ false }
     ensures { IfOk result (λ new. IsBuilt new (with_rule (app_of command.entry) (rule_of argument.entry))) }
 {
-    let new = command.arg(argument)?;
-    Ok(new)
+    command.arg(argument)
 }
 
 /// `--NAME VALUE`.

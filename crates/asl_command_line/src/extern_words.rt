@@ -1,14 +1,17 @@
 //! Pairs of a function of a source and of a C function as words: `F=NAME`.
-ghost use Rattle.std.specs.Prelude.{◌≡◌, length, map, string_bytes, take, IfOk, IfErr, MatchOption};
+ghost use Rattle.std.specs.Prelude.{◌≡◌, ◌++◌, ◌∷◌, [], List, length, map, string_bytes, take, IfOk, IfErr, MatchOption};
 ghost use Rattle.std.specs.List.{list_all};
 ghost use Rattle.std.specs.Str.{bytes_eq};
 ghost use Rattle.std.specs.Char.{is_ascii_digit};
+ghost use Rattle.clap.specs.Words.{Text};
 ghost use Rattle.clap.specs.Walk.{texts};
+ghost use Rattle.asl_command_line.specs.HeldTexts.{Hold};
 ghost use Rattle.asl_command_line.specs.Externs.{AreExterns, IsExternsFault, IsWrong, function_in, is_among, is_decimal, is_register, is_taken, c_name_in, why_text};
 
 use crate::command::Replacement;
 use crate::entry_words::is_name;
 use std::alloc::{AllocError, Global};
+use std::collections::BTreeMap;
 
 /// Why a word is no such pair.
 #[derive(Clone, Copy)]
@@ -170,23 +173,32 @@ fn is_taken(name: &str) -> bool
         || is_register(name.as_bytes())
 }
 
-/// Whether one of the words names the function.
-fn has_function(words: &[&str], function: &str) -> bool
-    ensures { result ≡ is_among (map function_in (texts words.now)) function.now }
+/// Adds a text to these.
+fn add_text<'a>(held: &mut BTreeMap<&'a str, ()>, text: &'a str) -> Result<(), AllocError>
+    ensures { IfOk result (λ _. (all : List Text) → Hold held.old all → Hold held.new (all ++ text.now ∷ [])) }
 {
-    words.iter().any(|word| is_same(halves(word).0, function))
+    held.insert(text, ())?;
+    Ok(())
 }
 
-/// Whether one of the words names the C function.
-fn has_name(words: &[&str], name: &str) -> bool
-    ensures { result ≡ is_among (map c_name_in (texts words.now)) name.now }
+/// Adds the function and the C function that a word names to these.
+fn add_word<'a>(
+    functions: &mut BTreeMap<&'a str, ()>,
+    names: &mut BTreeMap<&'a str, ()>,
+    word: &'a str,
+) -> Result<(), AllocError>
+    ensures functions { IfOk result (λ _. (all : List Text) → Hold functions.old all → Hold functions.new (all ++ function_in word.now ∷ [])) }
+    ensures names { IfOk result (λ _. (all : List Text) → Hold names.old all → Hold names.new (all ++ c_name_in word.now ∷ [])) }
 {
-    words.iter().any(|word| is_same(halves(word).1, name))
+    let (function, name) = halves(word);
+    add_text(functions, function)?;
+    add_text(names, name)
 }
 
-/// What is wrong with a word, after these words.
-fn wrong(before: &[&str], word: &str) -> Option<WhyNot>
-    ensures { MatchOption result ((why : WhyNot) → ¬ IsWrong (texts before.now) word.now why) (IsWrong (texts before.now) word.now) }
+/// What is wrong with a word, after words that name these functions and these C functions.
+fn wrong(functions: &BTreeMap<&str, ()>, names: &BTreeMap<&str, ()>, word: &str) -> Option<WhyNot>
+    ensures { (before : List Text) → Hold functions.now (map function_in before) → Hold names.now (map c_name_in before)
+        → MatchOption result ((why : WhyNot) → ¬ IsWrong before word.now why) (IsWrong before word.now) }
 {
     let (function, name) = halves(word);
     if !is_name(function) || !is_name(name) {
@@ -201,10 +213,10 @@ fn wrong(before: &[&str], word: &str) -> Option<WhyNot>
     if is_taken(name) {
         return Some(WhyNot::IsTaken);
     }
-    if has_function(before, function) {
+    if functions.contains_key(function) {
         return Some(WhyNot::FunctionTwice);
     }
-    if has_name(before, name) {
+    if names.contains_key(name) {
         return Some(WhyNot::NameTwice);
     }
     None
@@ -228,8 +240,10 @@ pub fn externs<'a>(alloc: Global, words: &[&'a str]) -> Result<Vec<Replacement>,
     ensures err { IfErr result (IsExternsFault (texts words.now)) }
 {
     let mut pairs = Vec::new(alloc);
-    for (number, word) in words.iter().enumerate() {
-        if let Some(why) = wrong(&words[..number], word) {
+    let mut functions = BTreeMap::new(alloc);
+    let mut names = BTreeMap::new(alloc);
+    for word in words {
+        if let Some(why) = wrong(&functions, &names, word) {
             return Err(ExternsFault::NoExtern(word, why));
         }
         let Ok(pair) = pair_of(alloc, word) else {
@@ -238,6 +252,9 @@ pub fn externs<'a>(alloc: Global, words: &[&'a str]) -> Result<Vec<Replacement>,
         if pairs.push(pair).is_err() {
             return Err(ExternsFault::OutOfMemory);
         }
+        let Ok(()) = add_word(&mut functions, &mut names, word) else {
+            return Err(ExternsFault::OutOfMemory);
+        };
     }
     Ok(pairs)
 }

@@ -85,6 +85,7 @@ fn read_command(
     }
 }
 
+/// The words of `asl step` as a command, or why they are none.
 fn read_step(alloc: Global, values: &ArgMatches<'_>) -> Result<Invocation, AllocError>
     ensures { IfOk result (IsReading (codes "step") (rows_of (found_of values.now))) }
 {
@@ -104,6 +105,7 @@ fn read_step(alloc: Global, values: &ArgMatches<'_>) -> Result<Invocation, Alloc
     }
 }
 
+/// The words of `asl run` as a command, or why they are none.
 fn read_run(alloc: Global, values: &ArgMatches<'_>) -> Result<Invocation, AllocError>
     ensures { IfOk result (IsReading (codes "run") (rows_of (found_of values.now))) }
 {
@@ -128,6 +130,7 @@ fn read_run(alloc: Global, values: &ArgMatches<'_>) -> Result<Invocation, AllocE
     }))
 }
 
+/// The words of `asl compile` as a command, or why they are none.
 fn read_compile(alloc: Global, values: &ArgMatches<'_>) -> Result<Invocation, AllocError>
     ensures { IfOk result (IsReading (codes "compile") (rows_of (found_of values.now))) }
 {
@@ -140,6 +143,7 @@ fn read_compile(alloc: Global, values: &ArgMatches<'_>) -> Result<Invocation, Al
     }
 }
 
+/// The words of `asl check` as a command, or why they are none.
 fn read_check(alloc: Global, values: &ArgMatches<'_>) -> Result<Invocation, AllocError>
     ensures { IfOk result (IsReading (codes "check") (rows_of (found_of values.now))) }
 {
@@ -152,6 +156,7 @@ fn read_check(alloc: Global, values: &ArgMatches<'_>) -> Result<Invocation, Allo
     }
 }
 
+/// The words of `asl explain` as a command, or why they are none.
 fn read_explain(alloc: Global, values: &ArgMatches<'_>) -> Result<Invocation, AllocError>
     ensures { IfOk result (IsReading (codes "explain") (rows_of (found_of values.now))) }
 {
@@ -169,6 +174,7 @@ fn read_explain(alloc: Global, values: &ArgMatches<'_>) -> Result<Invocation, Al
     }
 }
 
+/// The words of `asl lists` as a command, or why they are none.
 fn read_lists(alloc: Global, values: &ArgMatches<'_>) -> Result<Invocation, AllocError>
     ensures { IfOk result (IsReading (codes "lists") (rows_of (found_of values.now))) }
 {
@@ -202,6 +208,7 @@ fn read_entries(
     }
 }
 
+/// The words of `asl diagnose` as a command, or why they are none.
 fn read_diagnose(alloc: Global, values: &ArgMatches<'_>) -> Result<Invocation, AllocError>
     ensures { IfOk result (IsReading (codes "diagnose") (rows_of (found_of values.now))) }
 {
@@ -232,6 +239,7 @@ fn read_diagnose_flags(
     }))
 }
 
+/// The words of `asl c` as a command, or why they are none.
 fn read_c(alloc: Global, values: &ArgMatches<'_>) -> Result<Invocation, AllocError>
     ensures { IfOk result (IsReading (codes "c") (rows_of (found_of values.now))) }
 {
@@ -291,6 +299,7 @@ fn no_extern(alloc: Global, word: &str, why: WhyNot) -> Result<Invocation, Alloc
     invalid(alloc, word, "--extern <F=NAME>", why_text(why))
 }
 
+/// What the words of `asl log` ask for.
 fn read_log(values: &ArgMatches<'_>) -> Invocation
     ensures { IsReading (codes "log") (rows_of (found_of values.now)) result }
 {
@@ -298,6 +307,7 @@ fn read_log(values: &ArgMatches<'_>) -> Invocation
     Invocation::Alone(Command::Log { trace })
 }
 
+/// The words of `asl debug` as a command, or why they are none.
 fn read_debug(alloc: Global, values: &ArgMatches<'_>) -> Result<Invocation, AllocError>
     ensures { IfOk result (IsReading (codes "debug") (rows_of (found_of values.now))) }
 {

@@ -24,4 +24,4 @@ loop-done-preserved c =
 pub returns-in_err-word-clause-named : goal.returns-in_err-word-clause-named
 returns-in_err-word-clause-named c =
     let p = err_from_is_err_and c.from_residual.result c.from_residual.ensures.1 in
-    rw (p.1, p.2) (named_of_all c.args.all.now c.loop-done.done c.in_err-word.field-0.0 c.in_err-word.ensures.named)
+    rw (p.1, p.2) (named_of_all c.args.all.now c.loop-done.done c.loop-done.words.items c.loop-done.invariant.1 c.in_err-word.field-0.0 c.in_err-word.ensures.named)

@@ -10,18 +10,18 @@ returns-in-Err-NoWord c =
     let rows = rows_of (found_of c.args.values.now) in
     let err = subst (IsDebugWordsFault (words_at (codes "words") rows)) c.in-Err-NoWord.field-0-is c.in-Err-NoWord.ensures.err in
     let named = subst (IsNamedWord (words_at (codes "words") rows)) c.in-Err-NoWord.field-0-is c.in-Err-NoWord.ensures.named in
-    misused c.invalid.result (codes "debug") rows _ c.invalid.ensures (inr (inr (inr (inl (refl, err, inl (c.in-Err-NoWord.word.now, named.0, named.1, refl))))))
+    misused c.invalid.result (codes "debug") rows _ c.invalid.ensures (inr (inr (inr (inl (refl, err, inl (c.in-Err-NoWord.word.now, named, refl))))))
 
 pub returns-in-Err-NoNumber : goal.returns-in-Err-NoNumber
 returns-in-Err-NoNumber c =
     let rows = rows_of (found_of c.args.values.now) in
     let err = subst (IsDebugWordsFault (words_at (codes "words") rows)) c.in-Err-NoNumber.field-0-is c.in-Err-NoNumber.ensures.err in
     let named = subst (IsNamedWord (words_at (codes "words") rows)) c.in-Err-NoNumber.field-0-is c.in-Err-NoNumber.ensures.named in
-    misused c.invalid-in-Err-NoNumber.result (codes "debug") rows _ c.invalid-in-Err-NoNumber.ensures (inr (inr (inr (inl (refl, err, inr (inl (c.in-Err-NoNumber.word.now, named.0, named.1, refl)))))))
+    misused c.invalid-in-Err-NoNumber.result (codes "debug") rows _ c.invalid-in-Err-NoNumber.ensures (inr (inr (inr (inl (refl, err, inr (inl (c.in-Err-NoNumber.word.now, named, refl)))))))
 
 pub returns-in-Err-NumberMissing : goal.returns-in-Err-NumberMissing
 returns-in-Err-NumberMissing c =
     let rows = rows_of (found_of c.args.values.now) in
     let err = subst (IsDebugWordsFault (words_at (codes "words") rows)) c.in-Err-NumberMissing.field-0-is c.in-Err-NumberMissing.ensures.err in
     let named = subst (IsNamedWord (words_at (codes "words") rows)) c.in-Err-NumberMissing.field-0-is c.in-Err-NumberMissing.ensures.named in
-    misused c.wrong_usage.result (codes "debug") rows _ c.wrong_usage.ensures (inr (inr (inr (inl (refl, err, inr (inr (named.0, named.1, named.2, named.3, refl)))))))
+    misused c.wrong_usage.result (codes "debug") rows _ c.wrong_usage.ensures (inr (inr (inr (inl (refl, err, inr (inr (named, refl)))))))
