@@ -1,6 +1,6 @@
 -- What is told of a refusal, of its parts.
-use Rattle.std.proofs.Common.{◌≡◌, ◌≢◌, ℕ, List, None, sym, subst}
-use Rattle.std.specs.Prelude.{Result, Ok, Err, OnErr}
+use Rattle.std.proofs.Common.{◌≡◌, ◌≢◌, ℕ, List, Option, None, Some, sym, subst}
+use Rattle.std.specs.Prelude.{Result, Ok, Err, IsSome, OnErr}
 use Rattle.asl_syntax.specs.declared.fault.SyntaxFault.{SyntaxFault}
 use Rattle.asl_syntax.specs.declared.fault.SyntaxFault.TheVariants as syntax
 use Rattle.asl_syntax.specs.Fault.{IsFault}
@@ -21,6 +21,11 @@ use Rattle.asl_diagnose.specs.Diagnosed.{IsSourceRefusal, IsSourcePlace, IsSourc
 pub on_err : {R E : Type 0} (a : Result R E) (P : Type 0) → P → OnErr a P
 on_err (Ok r) P holds = tt
 on_err (Err e) P holds = holds
+
+-- an answer that is there
+pub some_told : (o : Option Diagnosis) (P : Option Diagnosis → Type 0) → IsSome o → P o → (d : Diagnosis) × P (Some d)
+some_told None P some holds = absurd (cc)
+some_told (Some d) P some holds = (d, holds)
 
 pub syntax_told : (source : List ℕ) (k : ℕ) (d : Diagnosis) (fault : SyntaxFault) → IsFault source fault → fault ≢ syntax.OutOfMemory → d.refusal ≡ refusal.Syntax fault → IsSyntaxPlace source fault d.first d.at → IsExpectedFor source fault d.expected.items d.may_end → IsPosition source d.at d.line d.column
     → HasFirst (refusal.Syntax fault) d.first → HasKinds (refusal.Syntax fault) d.expected.items d.may_end → d.bringers ≡ None → IsSourceDiagnosis source k d

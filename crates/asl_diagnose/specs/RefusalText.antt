@@ -1,13 +1,15 @@
 -- The text that is told of an input: nothing where it is accepted, and else a text that begins with line, column and name, and shows the line.
 use Rattle.std.specs.Prelude.{◌≡◌, ◌<◌, ◌⊎◌, ℕ, List, [], ◌++◌, Bool, true, false, Option, Some, None, length, map, take, drop, min, codes}
 use Rattle.std.specs.List.{Contains}
+use Rattle.asl_assembler.specs.Faults.{IsFault}
+use Rattle.asl_assembler.specs.declared.assembly.AsmFault.TheVariants as asm
 use Rattle.asl_grammar.specs.declared.token.Mark.TheVariants.{Semicolon}
 use Rattle.asl_syntax.specs.declared.fault.SyntaxFault.TheVariants.{NotAscii}
 use Rattle.asl_diagnose_text.specs.declared.kind.TokenKind.TheVariants.{Fixed}
 use Rattle.asl_diagnose.specs.declared.diagnosis.Diagnosis.{Diagnosis}
 use Rattle.asl_diagnose.specs.declared.diagnosis.Refusal.{Refusal}
 use Rattle.asl_diagnose.specs.declared.diagnosis.Refusal.TheVariants.{Syntax}
-use Rattle.asl_diagnose.specs.Diagnosed.{IsSourceDiagnosed, IsAssemblyDiagnosed}
+use Rattle.asl_diagnose.specs.Diagnosed.{IsSourceDiagnosed, IsAssemblyDiagnosed, MayLackMemory}
 use Rattle.asl_diagnose.specs.Names.{head_text}
 use Rattle.asl_diagnose.specs.Bringing.{bringers_text}
 use Rattle.asl_diagnose_text.specs.Listed.{expected_text}
@@ -66,3 +68,14 @@ pub record IsTold (input : List ℕ) (is_assembly : Bool) (k : ℕ) (text : List
   pub told : Option Diagnosis
   pub answer : IsAnswer input is_assembly k told
   pub spelled : IsSpelled input told text
+
+-- where lack of memory may hide the answer: for an assembly text where all its lines are right, for a source where it has a tree, or is to
+-- be told with what a program continues
+abbrev pub MayLackFor : List ℕ → Bool → Type 0
+MayLackFor input true = IsFault input asm.OutOfMemory
+MayLackFor input false = MayLackMemory input
+
+-- where lack of memory may hide the text that is told of an input: where it may hide the answer, or the input is refused, so that there is
+-- a text to make
+abbrev pub MayLackText : List ℕ → Bool → ℕ → Type 0
+MayLackText input is_assembly k = MayLackFor input is_assembly ⊎ ((d : Diagnosis) × IsAnswer input is_assembly k (Some d))

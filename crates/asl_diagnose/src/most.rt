@@ -17,6 +17,9 @@ use std::alloc::{AllocError, Global};
 /// The most locks that are left of a region where most of them are gone: half of those that a region may need.
 const FEW: usize = 2048;
 
+/// The most regions of a program: 1,024 sections, and the bodies of 256 functions.
+const MOST_REGIONS: usize = 1280;
+
 /// Statements that bring most of the locks of a region, since without them it needs few: the same text with `0` for the values of
 /// these assignments and with blanks for these stores is a program, and the region needs as many different locks in it as are left.
 #[derive(Clone, Copy)]
@@ -42,11 +45,13 @@ fn flow_of(alloc: Global, ast: &Ast<'_>, k: u32) -> Result<Flow, InferFault>
 }
 
 /// How many different locks a region of a text needs; nothing where the text is no program, or where a region of it needs too many.
+/// Where there is something to tell, `work` is then how many locks all of its regions need together.
 fn count_locks(
     alloc: Global,
     text: &[u8],
     region: Region,
     k: u32,
+    work: &mut usize,
 ) -> Result<Option<usize>, AllocError>
     requires { k ≤ 8 }
     ensures { IfOk result (λ count. IfSome count (NeedsSoMany text.now k region)) }
@@ -57,7 +62,10 @@ fn count_locks(
         Err(_) => return Ok(None),
     };
     match flow_of(alloc, &ast, k) {
-        Ok(flow) => Ok(Some(locks_of(&flow, region))),
+        Ok(flow) => {
+            *work = all_locks(&flow);
+            Ok(Some(locks_of(&flow, region)))
+        }
         Err(InferFault::OutOfMemory) => Err(AllocError),
         Err(_) => Ok(None),
     }
@@ -71,6 +79,15 @@ fn locks_of(flow: &Flow, region: Region) -> usize
         Some(place) => flow.locks(place).len(),
         None => 0,
     }
+}
+
+/// How many locks all regions need together.
+fn all_locks(flow: &Flow) -> usize {
+    let mut all: usize = 0;
+    for place in 0..MOST_REGIONS {
+        all = all.saturating_add(flow.locks(place).len());
+    }
+    all
 }
 
 /// A text with `0` for the values of these assignments, and blanks for these stores.
@@ -131,13 +148,14 @@ fn is_in_region(text: &[u8], region: Region, from: usize, to: usize) -> bool
     }
 }
 
-/// These statements, if they bring most of the locks of the region.
+/// These statements, if they bring most of the locks of the region. `work` is as in `count_locks`.
 pub(crate) fn brought(
     alloc: Global,
     text: &[u8],
     region: Region,
     k: u32,
     lines: &[Line],
+    work: &mut usize,
 ) -> Result<Option<Bringers>, AllocError>
     requires { k ≤ 8 }
     ensures { IfOk result (λ found. IfSome found (AreBringers text.now k region)) }
@@ -155,7 +173,7 @@ pub(crate) fn brought(
     if !is_filled_in(text, first.start, last.end, rest.as_slice()) {
         return Ok(None);
     }
-    match count_locks(alloc, rest.as_slice(), region, k)? {
+    match count_locks(alloc, rest.as_slice(), region, k, work)? {
         Some(left) if left <= FEW => Ok(Some(Bringers {
             from: first.start,
             to: last.end,

@@ -20,6 +20,7 @@ pub fn refusal_name(refusal: &Refusal) -> &'static str
     }
 }
 
+/// The name of a fault of the text.
 fn syntax_name(fault: &SyntaxFault) -> &'static str
     ensures { result.now ≡ syntax_name fault.now }
 {
@@ -36,6 +37,7 @@ fn syntax_name(fault: &SyntaxFault) -> &'static str
     }
 }
 
+/// The name of a fault that the inference finds.
 fn infer_name(fault: InferFault) -> &'static str
     ensures { result.now ≡ infer_name fault }
 {
@@ -49,6 +51,7 @@ fn infer_name(fault: InferFault) -> &'static str
     }
 }
 
+/// The name of a fault of an assembly text.
 fn asm_name(fault: AsmFault) -> &'static str
     ensures { result.now ≡ asm_name fault }
 {
@@ -59,6 +62,7 @@ fn asm_name(fault: AsmFault) -> &'static str
     }
 }
 
+/// The name of the rule that an image breaks.
 fn verify_name(cause: VerifyFault) -> &'static str
     ensures { result.now ≡ verify_name cause }
 {

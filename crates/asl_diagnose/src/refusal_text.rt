@@ -1,10 +1,10 @@
 //! The text of a refusal: where and what, the line, a caret, and what helps.
 
-ghost use Rattle.std.specs.Prelude.{◌≡◌, ◌≤◌, ◌++◌, ℕ, List, length, IfOk, OnOk, string_bytes};
+ghost use Rattle.std.specs.Prelude.{◌≡◌, ◌≤◌, ◌++◌, ℕ, List, length, IfOk, IsSome, OnErr, OnOk, string_bytes};
 ghost use Rattle.asl_diagnose_text.specs.Listed.{expected_text};
 ghost use Rattle.asl_diagnose.specs.Bringing.{bringers_text};
 ghost use Rattle.asl_diagnose.specs.Names.{head_text};
-ghost use Rattle.asl_diagnose.specs.RefusalText.{IsHeaded, IsAnswer, byte_at, IsByteTold, IsShownPlace, IsSpelled, IsTold};
+ghost use Rattle.asl_diagnose.specs.RefusalText.{IsHeaded, IsAnswer, byte_at, IsByteTold, IsShownPlace, IsSpelled, IsTold, MayLackFor, MayLackText};
 
 use crate::assembly_refusal::diagnose_assembly;
 use crate::bringers_text::push_bringers;
@@ -114,6 +114,7 @@ fn hints(alloc: Global, text: &[u8], told: &Diagnosis) -> Result<String, AllocEr
     Ok(message)
 }
 
+/// Adds what is wrong, as one sentence.
 fn push_sentence(
     alloc: Global,
     message: &mut String,
@@ -130,6 +131,7 @@ fn push_sentence(
     }
 }
 
+/// Adds what helps, as lines of their own.
 fn push_hints(
     alloc: Global,
     message: &mut String,
@@ -154,7 +156,7 @@ fn push_hints(
 ///
 /// # Errors
 ///
-/// An allocation failed.
+/// An allocation failed. Of an input that is accepted this is so only where the call that judges it may say so.
 pub fn diagnosed(
     alloc: Global,
     input: &[u8],
@@ -162,7 +164,8 @@ pub fn diagnosed(
     k: u32,
 ) -> Result<String, AllocError>
     requires { k ≤ 8 }
-    ensures { IfOk result (λ t. IsTold input.now is_assembly k (string_bytes t)) }
+    ensures told { IfOk result (λ t. IsTold input.now is_assembly k (string_bytes t)) }
+    ensures memory { OnErr result (MayLackText input.now is_assembly k) }
 {
     let told = answer(alloc, input, is_assembly, k)?;
     let text = spell_answer(alloc, input, &told)?;
@@ -177,7 +180,8 @@ fn answer(
     k: u32,
 ) -> Result<Option<Diagnosis>, AllocError>
     requires { k ≤ 8 }
-    ensures { IfOk result (IsAnswer input.now is_assembly k) }
+    ensures told { IfOk result (IsAnswer input.now is_assembly k) }
+    ensures memory { OnErr result (MayLackFor input.now is_assembly) }
 {
     if is_assembly {
         diagnose_assembly(alloc, input)
@@ -188,7 +192,8 @@ fn answer(
 
 /// An answer as text, which is empty where there is nothing to tell.
 fn spell_answer(alloc: Global, input: &[u8], told: &Option<Diagnosis>) -> Result<String, AllocError>
-    ensures { IfOk result (λ t. IsSpelled input.now told.now (string_bytes t)) }
+    ensures spelled { IfOk result (λ t. IsSpelled input.now told.now (string_bytes t)) }
+    ensures memory { OnErr result (IsSome told.now) }
 {
     match told {
         None => Ok(String::new(alloc)),

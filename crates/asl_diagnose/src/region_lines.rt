@@ -1,4 +1,4 @@
-//! The assignments and the stores of a region, by the tokens of a text.
+//! The assignments and the stores of a region, by the tokens of a text: that of a section, or the body of a function.
 
 ghost use Rattle.std.specs.Prelude.{IfSome};
 ghost use Rattle.asl_diagnose.specs.InferPlaces.{IsRegionPlace};
@@ -58,11 +58,13 @@ impl Scan {
         None
     }
 
+    /// Goes into a block.
     fn open(&mut self) {
         self.depth = self.depth.saturating_add(1);
         self.is_start = true;
     }
 
+    /// Leaves a block.
     fn close(&mut self) {
         self.depth = self.depth.saturating_sub(1);
         self.is_start = true;

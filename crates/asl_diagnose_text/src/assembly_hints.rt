@@ -183,6 +183,7 @@ fn push_verify_hints(
     }
 }
 
+/// Adds where a jump may lead to and which functions there are.
 fn push_target_hint(message: &mut String, text: &[u8], pc: u32) -> Result<(), AllocError> {
     let first = listing_at(text, pc as usize).first;
     let end = end_of_body(text, first);
@@ -193,6 +194,7 @@ fn push_target_hint(message: &mut String, text: &[u8], pc: u32) -> Result<(), Al
     )
 }
 
+/// Adds how many globals, classes and lists there are.
 fn push_operand_hint(message: &mut String, text: &[u8], pc: u32) -> Result<(), AllocError> {
     let all = whole(text);
     let globals = all.globals;

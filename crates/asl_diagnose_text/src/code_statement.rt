@@ -29,6 +29,7 @@ struct Coder<'t> {
 }
 
 impl<'t> Coder<'t> {
+    /// At the start of a text, before its first function.
     fn new(alloc: Global) -> Coder<'t> {
         Coder {
             walk: Walk::new(alloc),

@@ -79,6 +79,7 @@ pub fn push_syntax_sentence(
     }
 }
 
+/// Adds the byte with which no token begins.
 fn push_token_sentence(message: &mut String, text: &[u8], at: usize) -> Result<(), AllocError> {
     message.push_str("no token begins with ")?;
     match text.get(at) {
@@ -116,6 +117,7 @@ pub fn push_missing_end(
     }
 }
 
+/// Adds which function is called, with how many arguments and how many it has.
 fn push_arity_sentence(message: &mut String, text: &[u8], at: usize) -> Result<(), AllocError> {
     let name = name_from(text, at);
     let arguments = arguments_at(text, at);
