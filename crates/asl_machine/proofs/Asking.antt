@@ -1,5 +1,5 @@
 -- What a lock asks by its own node, and whether its list can be granted.
-use Rattle.std.proofs.Common.{◌≡◌, ℕ, ◌<◌, ◌+◌, suc, arith, Bool, true, false, cond, List, [], ◌∷◌, ◌++◌, length, drop, get_or, Option, None, Some, slice_get, refl, sym, ap, ◌∙◌, subst, inl, inr}
+use Rattle.std.proofs.Common.{◌≡◌, ℕ, ◌<◌, ◌+◌, suc, arith, Bool, true, false, cond, List, [], ◌∷◌, ◌++◌, length, drop, take, get_or, Option, None, Some, slice_get, refl, sym, ap, ◌∙◌, subst, inl, inr}
 use Rattle.std.specs.Option.{option_map, option_map_or}
 use Rattle.std.proofs.lemmas.Option.{same_Some}
 use Rattle.asl_code.specs.Locks.{effect_of}
@@ -27,6 +27,7 @@ use Rattle.asl_machine.specs.Asking.{leaf_of, node_of, asks_at, AreFree, IsHeldU
 use Rattle.asl_machine.proofs.LeastRequests.{asked-joined_with, request_is_least}
 use Rattle.asl_machine.proofs.Asks.{asks_among}
 use Rattle.asl_machine.proofs.Joins.{joined_all-append}
+use Rattle.std.proofs.lemmas.List.{append_assoc, append-nil, take_more}
 use Rattle.std.proofs.Math.Seq.{drop-cons}
 
 -- the asks of a lock that has this node, or none
@@ -134,7 +135,7 @@ goes_cond : (p : Bool) (a m c : Mode) → AreCompatible a c → (p ≡ true → 
 goes_cond true a m c h k = join_goes a m c h (k refl)
 goes_cond false a m c h k = h
 
-same_is : (a b : Node) → same_node a b ≡ true → a ≡ b
+pub same_is : (a b : Node) → same_node a b ≡ true → a ≡ b
 same_is a b e = elim (tell_nodes a b) [ inl t ↦ t.1 | inr t ↦ let h = t.0 in cc ]
 
 -- asks that are free can be joined to a request that is
@@ -161,7 +162,7 @@ held_ask h t (ask ∷ asks) blocked = elim blocked [
   | inr later ↦ let rest = held_ask h t asks later in (rest.0, rest.1, inr rest.2, rest.3)
 ]
 
-not_true : (b : Bool) → (b ≡ true → ⊥) → b ≡ false
+pub not_true : (b : Bool) → (b ≡ true → ⊥) → b ≡ false
 not_true true never = absurd (never refl)
 not_true false never = refl
 
@@ -188,3 +189,17 @@ all_left objects regs request locks k l there is =
     ∙ ap (λ x. joined_all request (asks_of objects regs x ++ all_asks objects regs (drop (suc k) locks))) (sym is)
     ∙ ap (λ n. joined_all request (asks_of objects regs l ++ all_asks objects regs (drop n locks))) next
     ∙ joined_all-append request (asks_of objects regs l) (all_asks objects regs (drop (k + 1) locks))
+
+-- the asks of one lock more
+more_asks : (objects : List Object) (regs : List Value) (ls : List Lock) (l : Lock) → all_asks objects regs (ls ++ l ∷ []) ≡ all_asks objects regs ls ++ asks_of objects regs l
+more_asks objects regs [] l = append-nil (asks_of objects regs l)
+more_asks objects regs (a ∷ ls) l =
+    ap (λ (r : Request). asks_of objects regs a ++ r) (more_asks objects regs ls l)
+    ∙ sym (append_assoc (asks_of objects regs a) (all_asks objects regs ls) (asks_of objects regs l))
+
+pub request_more : (objects : List Object) (regs : List Value) (locks : List Lock) (k : ℕ) (l : Lock) → k < length locks → l ≡ get_or locks k l
+    → request_of objects regs (take (k + 1) locks) ≡ joined_all (request_of objects regs (take k locks)) (asks_of objects regs l)
+request_more objects regs locks k l there is =
+    ap (request_of objects regs) (take_more locks k l there ∙ ap (λ x. take k locks ++ x ∷ []) (sym is))
+    ∙ ap (joined_all []) (more_asks objects regs (take k locks) l)
+    ∙ joined_all-append [] (all_asks objects regs (take k locks)) (asks_of objects regs l)

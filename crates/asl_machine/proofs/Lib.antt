@@ -6,6 +6,7 @@ pub mod RequestEntries
 pub mod Asks
 pub mod Asking
 pub mod Granted
+pub mod NodePlaces
 -- lists, objects and frames
 pub mod Lists
 pub mod Rising

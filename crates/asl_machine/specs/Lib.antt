@@ -19,4 +19,5 @@ pub mod StepFunction
 pub mod ComputedRun
 pub mod Ready
 pub mod Asking
+pub mod Places
 pub mod PackedValue

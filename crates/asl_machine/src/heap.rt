@@ -57,24 +57,28 @@ impl Object {
         })
     }
 
+    /// The class of the object.
     fn class(&self) -> u16
         ensures { result ≡ self.now.class }
     {
         self.class
     }
 
+    /// How many cells the object has.
     fn size(&self) -> u8
         ensures { result ≡ length self.now.cells }
     {
         self.cells.len() as u8
     }
 
+    /// What its cell at the offset holds, if it has that cell.
     fn cell(&self, offset: usize) -> Option<PackedValue>
         ensures { result ≡ slice_get self.now.cells offset }
     {
         self.cells.get(offset).copied()
     }
 
+    /// Stores a value in the cell at the offset.
     fn write(&mut self, offset: usize, value: PackedValue)
         requires { offset < length self.old.cells }
         ensures { self.new ≡ with_cell self.old offset value }

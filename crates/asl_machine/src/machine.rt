@@ -135,6 +135,7 @@ impl<'p> Machine<'p> {
         Ok(self.copied(alloc)?)
     }
 
+    /// An equal machine, over memory of its own.
     fn copied(&self, alloc: Global) -> Result<Machine<'p>, AllocError>
         ensures { IfOk result (λ machine. machine ≡ self.now) }
     {

@@ -1,5 +1,5 @@
 //! What a section asks for at its entry.
-ghost use Rattle.std.specs.Prelude.{◌≡◌, ◌<◌, IsTrue, false, All, IfOk, OnOk, OnErr, length, position};
+ghost use Rattle.std.specs.Prelude.{◌≡◌, ◌<◌, [], IsTrue, false, All, IfOk, OnOk, OnErr, length, position};
 ghost use Rattle.asl_expression.specs.Expression.{cell_denoted, base_cell};
 ghost use Rattle.asl_lock_forest.specs.Node.{same_node, IsThere};
 ghost use Rattle.asl_lock_forest.specs.Holding.{covering_mode, can_grant};
@@ -8,8 +8,10 @@ ghost use Rattle.asl_machine.specs.Request.{LockOfClass, heap_of, asks_of, upper
 ghost use Rattle.asl_machine.specs.Asking.{leaf_of, node_of, asks_at, AreFree, IsHeldUp};
 
 use crate::free_locks::are_free;
+use crate::gathering::gather_many;
 use crate::heap::Heap;
 use crate::packed_value::PackedValue;
+use crate::places::MOST_LOCKS;
 use asl_code::{Base, Cell, Effect, Expr, Lock};
 use asl_expression::{follow, pointed};
 use asl_lock_forest::{Forest, Node};
@@ -40,14 +42,37 @@ pub fn request(
     ensures asks { OnErr result (0 < length (request_of heap.now regs.now locks.now)) }
 {
     asks.clear();
-    if locks.len() > FEW && !are_free(locks, regs, heap, forest, t) {
-        return Ok(false);
+    if locks.len() > FEW {
+        return request_many(asks, locks, regs, heap, forest, t);
     }
     for lock in locks {
         if !add_lock(asks, lock, regs, heap, forest, t)? {
             return Ok(false);
         }
     }
+    Ok(true)
+}
+
+/// The same of many locks, into no asks.
+fn request_many(
+    asks: &mut Vec<(Node, Mode)>,
+    locks: &[Lock],
+    regs: &[PackedValue],
+    heap: &Heap,
+    forest: &Forest,
+    t: u32,
+) -> Result<bool, AllocError>
+    requires none { asks.old.items ≡ [] }
+    requires locks { All (LockOfClass forest.now.classes) locks.now }
+    requires classes { AreOfClasses forest.now.classes heap.now }
+    ensures request { IfOk result (λ free. IsTrue free → asks.new.items ≡ request_of heap.now regs.now locks.now) }
+    ensures free { IfOk result (λ free. free ≡ can_grant forest.now.holding t (request_of heap.now regs.now locks.now)) }
+    ensures asks { OnErr result (0 < length (request_of heap.now regs.now locks.now)) }
+{
+    if !are_free(locks, regs, heap, forest, t) {
+        return Ok(false);
+    }
+    gather(asks, locks, regs, heap)?;
     Ok(true)
 }
 
@@ -61,10 +86,28 @@ pub fn whole_request(
     ensures { IfOk result (λ asks. asks.items ≡ request_of heap.now regs.now locks.now) }
 {
     let mut asks = Vec::new(alloc);
-    for lock in locks {
-        add_asks(&mut asks, lock, regs, heap)?;
-    }
+    gather(&mut asks, locks, regs, heap)?;
     Ok(asks)
+}
+
+/// Puts the request of the locks into no asks.
+fn gather(
+    asks: &mut Vec<(Node, Mode)>,
+    locks: &[Lock],
+    regs: &[PackedValue],
+    heap: &Heap,
+) -> Result<(), AllocError>
+    requires { asks.old.items ≡ [] }
+    ensures request { OnOk result (asks.new.items ≡ request_of heap.now regs.now locks.now) }
+    ensures asks { OnErr result (0 < length (request_of heap.now regs.now locks.now)) }
+{
+    if locks.len() > FEW && locks.len() <= MOST_LOCKS {
+        return gather_many(asks, locks, regs, heap);
+    }
+    for lock in locks {
+        add_asks(asks, lock, regs, heap)?;
+    }
+    Ok(())
 }
 
 /// Adds what the lock asks.
@@ -74,7 +117,8 @@ fn add_asks(
     regs: &[PackedValue],
     heap: &Heap,
 ) -> Result<(), AllocError>
-    ensures { OnOk result (request.new.items ≡ joined_all request.old.items (asks_of heap.now regs.now lock.now)) }
+    ensures added { OnOk result (request.new.items ≡ joined_all request.old.items (asks_of heap.now regs.now lock.now)) }
+    ensures asks { OnErr result (0 < length (asks_of heap.now regs.now lock.now)) }
 {
     match node_of(lock, regs, heap) {
         Some(node) => add_all(request, node, lock.effect()),
@@ -209,7 +253,7 @@ fn place(request: &[(Node, Mode)], node: Node) -> Option<usize>
 }
 
 /// The mode that a lock asks at its own node.
-fn own(effect: Effect) -> Mode
+pub(crate) fn own(effect: Effect) -> Mode
     ensures { result ≡ covering_mode effect }
 {
     match effect {
@@ -219,7 +263,7 @@ fn own(effect: Effect) -> Mode
 }
 
 /// The mode that a lock asks above its own node.
-fn upper(effect: Effect) -> Mode
+pub(crate) fn upper(effect: Effect) -> Mode
     ensures { result ≡ upper_mode effect }
 {
     match effect {
