@@ -15,6 +15,10 @@ use std::thread::Threads;
 const COUNTER: &[u8] =
     b"version 1\nclasses 1\nglobal 0\nentry 0\nfn 1 5\nglob r1, g0\nacq 0\nload r2, r1\nint r3, 1\nadd r4, r2, r3\nstore r1, r4\nrel\nret r0\nlist\nexpr r1 write\n";
 
+/// A program whose threads lock an object of their own each, in eight steps whoever else is there.
+const APART: &[u8] =
+    b"version 1\nclasses 1\nglobal 0\nentry 0\nfn 1 5\nnew r1, 1, 0\nacq 0\nload r2, r1\nint r3, 1\nadd r4, r2, r3\nstore r1, r4\nrel\nret r0\nlist\nexpr r1 write\n";
+
 /// How often a gate looks before it gives up.
 pub const LOOKS: u64 = 1_000_000_000;
 
@@ -247,12 +251,22 @@ fn receipts(report: &Report<'_>) -> [usize; 8] {
     counts
 }
 
-/// The counter's program, at the second call if the first wants memory.
-pub fn counter(alloc: Global) -> Option<Program> {
-    match assemble(alloc, COUNTER) {
-        Err(AsmFault::OutOfMemory) => assemble(alloc, COUNTER).ok(),
+/// The text's program, at the second call if the first wants memory.
+fn assembled(alloc: Global, text: &[u8]) -> Option<Program> {
+    match assemble(alloc, text) {
+        Err(AsmFault::OutOfMemory) => assemble(alloc, text).ok(),
         answer => answer.ok(),
     }
+}
+
+/// The counter's program.
+pub fn counter(alloc: Global) -> Option<Program> {
+    assembled(alloc, COUNTER)
+}
+
+/// The program of threads that are in nobody's way.
+pub fn apart(alloc: Global) -> Option<Program> {
+    assembled(alloc, APART)
 }
 
 /// The counter, of version 2.
@@ -281,6 +295,16 @@ pub const TWO: Told = Told {
     tickets: 16,
     receipts: [8, 8, 0, 0, 0, 0, 0, 0],
     counter: Some(Value::Int(2)),
+    ended: 2,
+    told: 2,
+};
+
+/// What two threads of two workers come to where each counts up an object of its own.
+pub const TWO_APART: Told = Told {
+    events: 16,
+    tickets: 16,
+    receipts: [8, 8, 0, 0, 0, 0, 0, 0],
+    counter: Some(Value::Int(0)),
     ended: 2,
     told: 2,
 };
@@ -427,7 +451,7 @@ fn what_no_run_has_is_refused(rt: HostRuntime) -> Result<(), Fail> {
 #[test]
 fn a_run_of_version_2_has_1_to_128_threads(rt: HostRuntime) -> Result<(), Fail> {
     let program = assemble(rt.alloc(), SECOND).ok().ok_or("no program")?;
-    let ran = outcome(&rt, rt.alloc(), &program, (128, 8, 1_000_000), &Open);
+    let ran = outcome(&rt, rt.alloc(), &program, (128, 8, 8_000_000), &Open);
     let counted = match ran {
         Some(Ok(told)) => Some((told.counter, told.ended)),
         _ => None,
