@@ -1,4 +1,4 @@
-//! Tickets: numbers that threads draw from one shared word, each number once.
+//! Tickets: numbers that threads draw from one shared word, each number once. `rule` says how that word may change.
 #![tactic(auto)]
 
 mod rule;
