@@ -38,6 +38,7 @@ pub fn disassemble(alloc: Global, program: &Program) -> Result<Vec<u8>, AllocErr
     Ok(text)
 }
 
+/// The lines of all parts, in the order in which a text has them.
 fn put_image(text: &mut Vec<u8>, image: &Image) -> Result<(), AllocError>
     requires version { IsVersion image.now.version }
     requires classes { image.now.classes < 2 ^ 16 }
@@ -74,6 +75,7 @@ fn put_head(text: &mut Vec<u8>, version: u32, classes: u32) -> Result<(), AllocE
     lines.add_to(text)
 }
 
+/// The line of a global, with its class.
 fn put_global(text: &mut Vec<u8>, class: u16) -> Result<(), AllocError>
     ensures { OnOk result (Writes ℕ FitsGlobalLine global_text text.old.items text.new.items class) }
 {
@@ -82,6 +84,7 @@ fn put_global(text: &mut Vec<u8>, class: u16) -> Result<(), AllocError>
     line.add_to(text)
 }
 
+/// A line a global, in the order of their numbers.
 fn put_globals(text: &mut Vec<u8>, classes: &[u16]) -> Result<(), AllocError>
     ensures { OnOk result (WritesEach ℕ FitsGlobalLine global_text text.old.items text.new.items classes.now) }
 {
@@ -91,6 +94,7 @@ fn put_globals(text: &mut Vec<u8>, classes: &[u16]) -> Result<(), AllocError>
     Ok(())
 }
 
+/// The line that says with which function a thread begins.
 fn put_entry(text: &mut Vec<u8>, function: u16) -> Result<(), AllocError>
     ensures { OnOk result (WritesLine text.old.items text.new.items (line.Entry function)) }
 {
@@ -118,6 +122,7 @@ fn put_functions(
     Ok(())
 }
 
+/// The line of a function, then its body.
 fn put_function(text: &mut Vec<u8>, function: &Function, code: &[Instr]) -> Result<(), AllocError>
     ensures { OnOk result (Writes Body FitsBodyLines body_text text.old.items text.new.items
         (record { params = function.now.params; regs = function.now.regs; code = code.now })) }
@@ -139,6 +144,7 @@ fn signature_line(params: u8, regs: u8) -> Piece
     line
 }
 
+/// The line that begins a function: how many parameters and registers it has.
 fn put_signature(text: &mut Vec<u8>, params: u8, regs: u8) -> Result<(), AllocError>
     ensures { OnOk result (WritesLine text.old.items text.new.items (line.Function params regs)) }
 {
@@ -146,6 +152,7 @@ fn put_signature(text: &mut Vec<u8>, params: u8, regs: u8) -> Result<(), AllocEr
     line.add_to(text)
 }
 
+/// A line an instruction.
 fn put_code(text: &mut Vec<u8>, code: &[Instr]) -> Result<(), AllocError>
     ensures { OnOk result (WritesEach Instr FitsInstrLine instr_text text.old.items text.new.items code.now) }
 {
@@ -155,6 +162,7 @@ fn put_code(text: &mut Vec<u8>, code: &[Instr]) -> Result<(), AllocError>
     Ok(())
 }
 
+/// The lists, in the order of their numbers.
 fn put_lists(text: &mut Vec<u8>, lists: &[Items<Lock>]) -> Result<(), AllocError>
     ensures { OnOk result (WritesEach (List Lock) FitsListLines list_text text.old.items text.new.items lists.now) }
 {
@@ -164,6 +172,7 @@ fn put_lists(text: &mut Vec<u8>, lists: &[Items<Lock>]) -> Result<(), AllocError
     Ok(())
 }
 
+/// The line that begins a list, then its locks.
 fn put_list(text: &mut Vec<u8>, locks: &[Lock]) -> Result<(), AllocError>
     ensures { OnOk result (Writes (List Lock) FitsListLines list_text text.old.items text.new.items locks.now) }
 {
@@ -171,6 +180,7 @@ fn put_list(text: &mut Vec<u8>, locks: &[Lock]) -> Result<(), AllocError>
     put_locks(text, locks)
 }
 
+/// A line a lock.
 fn put_locks(text: &mut Vec<u8>, locks: &[Lock]) -> Result<(), AllocError>
     ensures { OnOk result (WritesEach Lock FitsLockLine lock_text text.old.items text.new.items locks.now) }
 {

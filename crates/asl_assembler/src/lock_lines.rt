@@ -52,6 +52,7 @@ fn op_word(op: Op) -> Piece
     word
 }
 
+/// The word of the register or the global from which an expression goes.
 fn put_base(text: &mut Vec<u8>, base: Base) -> Result<(), AllocError>
     ensures { OnOk result (Writes Base FitsBaseWord base_text text.old.items text.new.items base) }
 {
@@ -59,6 +60,7 @@ fn put_base(text: &mut Vec<u8>, base: Base) -> Result<(), AllocError>
     word.add_to(text)
 }
 
+/// The word of one operation of a path.
 fn put_op(text: &mut Vec<u8>, op: Op) -> Result<(), AllocError>
     ensures { OnOk result (Writes Op FitsOpWord op_text text.old.items text.new.items op) }
 {
@@ -66,6 +68,7 @@ fn put_op(text: &mut Vec<u8>, op: Op) -> Result<(), AllocError>
     word.add_to(text)
 }
 
+/// The words of a path, from its base on.
 fn put_ops(text: &mut Vec<u8>, ops: &[Op]) -> Result<(), AllocError>
     ensures { OnOk result (WritesEach Op FitsOpWord op_text text.old.items text.new.items ops.now) }
 {
@@ -87,6 +90,7 @@ fn effect_end(effect: Effect) -> Piece
     line
 }
 
+/// The line of a lock on the cell that an expression names.
 fn put_expr(text: &mut Vec<u8>, expr: &Expr, effect: Effect) -> Result<(), AllocError>
     ensures { OnOk result (WritesLine text.old.items text.new.items (line.Lock (lock.Expr expr.now effect))) }
 {
@@ -116,6 +120,7 @@ fn class_line(class: u16, effect: Effect) -> Piece
     line
 }
 
+/// The line of a lock on the root.
 fn put_root(text: &mut Vec<u8>, effect: Effect) -> Result<(), AllocError>
     ensures { OnOk result (WritesLine text.old.items text.new.items (line.Lock (lock.Root effect))) }
 {
@@ -123,6 +128,7 @@ fn put_root(text: &mut Vec<u8>, effect: Effect) -> Result<(), AllocError>
     line.add_to(text)
 }
 
+/// The line of a lock on a class.
 fn put_class(text: &mut Vec<u8>, class: u16, effect: Effect) -> Result<(), AllocError>
     ensures { OnOk result (WritesLine text.old.items text.new.items (line.Lock (lock.Class class effect))) }
 {

@@ -60,6 +60,7 @@ pub fn get_instr(bytes: &[u8; 8]) -> Result<Instr, usize>
     instr_of_fields(op, a, b, c, u32::from_be_bytes([d0, d1, d2, d3]))
 }
 
+/// The bytes of an instruction by its fields: op, a, b, c, and d with its greatest byte first.
 fn eight_bytes(op: u8, a: u8, b: u8, c: u8, d: u32) -> [u8; 8]
     ensures { result ≡ eight_bytes op a b c d }
 {
@@ -220,6 +221,7 @@ fn section_instr(op: u8, d: u32) -> Instr
     }
 }
 
+/// The instruction of these fields; else the place of the first field that it cannot have.
 fn instr_of_fields(op: u8, a: u8, b: u8, c: u8, d: u32) -> Result<Instr, usize>
     ensures { result ≡ instr_of_fields op a b c d }
 {

@@ -64,6 +64,7 @@ fn passes(image: &Image, rule: Rule, first: usize, function: &Function, instr: &
     }
 }
 
+/// Whether a jump stays in the body of its function, and the function that a call names is there.
 fn has_target(image: &Image, first: usize, function: &Function, instr: &Instr) -> bool
     ensures { result ≡ has_target image.now (body_at first function.now) instr.now }
 {
@@ -83,6 +84,7 @@ fn is_inside(place: usize, first: usize, len: usize) -> bool
     first <= place && place - first < len
 }
 
+/// Whether the function has each register that the instruction names, and all that a call hands on.
 fn has_registers(image: &Image, function: &Function, instr: &Instr) -> bool
     ensures { result ≡ has_registers image.now function.now instr.now }
 {
@@ -132,6 +134,7 @@ fn has_operands(image: &Image, instr: &Instr) -> bool
     }
 }
 
+/// Whether the function has the registers on which the locks of the list that it acquires are based.
 fn has_list_bases(image: &Image, function: &Function, instr: &Instr) -> bool
     ensures { result ≡ has_list_bases image.now function.now instr.now }
 {
@@ -144,6 +147,7 @@ fn has_list_bases(image: &Image, function: &Function, instr: &Instr) -> bool
     }
 }
 
+/// Whether it has those of all these locks.
 fn has_lock_bases(function: &Function, locks: &[Lock]) -> bool
     ensures { result ≡ list_all (has_lock_base function.now) locks.now }
 {

@@ -66,6 +66,7 @@ pub fn get_value(bytes: &[u8]) -> Result<(Value, usize), ValueFault>
     value_at(bytes)
 }
 
+/// The value at the front of the bytes, and how many it takes.
 fn value_at(bytes: &[u8]) -> Result<(Value, usize), ValueFault>
     ensures { result ≡ value_at bytes.now }
 {

@@ -70,12 +70,14 @@ fn keeps_counts(image: &Image, version: Limits) -> bool
         && lists_keep_limit(image.lists.as_slice(), version)
 }
 
+/// Whether no function has more parameters or registers than a function may.
 fn functions_keep_limits(functions: &[Function]) -> bool
     ensures { result ≡ list_all keeps_function_limits functions.now }
 {
     functions.iter().all(|f| f.params <= image_limits::PARAMS && f.regs <= image_limits::REGS)
 }
 
+/// Whether no list has more locks than the version allows.
 fn lists_keep_limit(lists: &[Items<Lock>], version: Limits) -> bool
     ensures { result ≡ list_all (keeps_list_limit version) lists.now }
 {
@@ -89,12 +91,14 @@ fn has_tables(image: &Image) -> bool
     has_classes(image.globals.as_slice(), image.classes) && has_lists(image)
 }
 
+/// Whether the class of each global is there.
 fn has_classes(globals: &[u16], classes: u32) -> bool
     ensures { result ≡ list_all (λ class. nat_lt class classes) globals.now }
 {
     globals.iter().all(|class| u32::from(*class) < classes)
 }
 
+/// Whether what each lock of each list names is there.
 fn has_lists(image: &Image) -> bool
     ensures { result ≡ list_all (list_all (has_lock image.now)) image.now.lists }
 {
@@ -105,12 +109,14 @@ fn has_lists(image: &Image) -> bool
         .all(|locks| has_locks(image, locks.as_slice()))
 }
 
+/// Whether what each of these locks names is there.
 fn has_locks(image: &Image, locks: &[Lock]) -> bool
     ensures { result ≡ list_all (has_lock image.now) locks.now }
 {
     locks.iter().all(|lock| has_lock(image, lock))
 }
 
+/// Whether the class or the global that a lock names is there; a register is judged where the list is acquired.
 fn has_lock(image: &Image, lock: &Lock) -> bool
     ensures { result ≡ has_lock image.now lock.now }
 {
@@ -143,12 +149,14 @@ fn has_ranges(image: &Image) -> bool
         && total_len(image.functions.as_slice()) == image.code.len() as u64
 }
 
+/// Whether each function has an instruction, and a register for each parameter.
 fn functions_have_range(functions: &[Function]) -> bool
     ensures { result ≡ list_all has_range functions.now }
 {
     functions.iter().all(|f| 0 < f.len && f.params <= f.regs)
 }
 
+/// How many instructions all bodies have together.
 fn total_len(functions: &[Function]) -> u64
     requires { length functions.now ≤ 256 }
     ensures { result ≡ total_len functions.now }
@@ -173,6 +181,7 @@ fn has_ends(image: &Image) -> bool
     true
 }
 
+/// Whether nothing goes on to the instruction behind this one.
 fn is_end(instr: &Instr) -> bool
     ensures { result ≡ is_end instr.now }
 {

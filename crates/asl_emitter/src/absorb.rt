@@ -133,6 +133,7 @@ fn begins_with_expr(given: &[Lock]) -> bool
     }
 }
 
+/// Whether the lock is on a single cell.
 fn is_expr(lock: &Lock) -> bool
     ensures { result ≡ is_expr lock.now }
 {

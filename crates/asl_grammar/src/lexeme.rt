@@ -6,24 +6,28 @@ ghost use Rattle.asl_grammar.specs.View.{front_view};
 
 use crate::token::{Mark, Token};
 
+/// Whether the byte parts tokens and is in none.
 fn is_blank(b: u8) -> bool
     ensures { result ≡ is_blank b }
 {
     b == b' ' || b == b'\t' || b == b'\n' || b == b'\r'
 }
 
+/// Whether the byte is a decimal digit.
 fn is_digit(b: u8) -> bool
     ensures { result ≡ is_digit b }
 {
     b'0' <= b && b <= b'9'
 }
 
+/// Whether a name may begin with the byte.
 fn is_letter(b: u8) -> bool
     ensures { result ≡ is_letter b }
 {
     b'A' <= b && b <= b'Z' || b'a' <= b && b <= b'z' || b == b'_'
 }
 
+/// Whether the byte may stand in a name.
 fn is_name_byte(b: u8) -> bool
     ensures { result ≡ is_name_byte b }
 {

@@ -51,6 +51,7 @@ fn count_at(bytes: &[u8]) -> Result<(usize, &[u8]), Stop>
     }
 }
 
+/// The value at the front of the bytes, and the bytes behind it.
 fn value_at(bytes: &[u8]) -> Result<(Value, &[u8]), Stop>
     ensures { Gives (λ x. (x.0, x.1.now)) result (value_at bytes.now) }
 {
@@ -136,6 +137,7 @@ fn any_event_at(threads: u32, bytes: &[u8]) -> Result<(Event, &[u8]), Stop>
     Ok((Event { thread, reply }, rest))
 }
 
+/// So many events at the front of the bytes, or none where memory was refused, and the bytes behind them.
 fn events_of(
     alloc: Global,
     threads: u32,

@@ -34,12 +34,14 @@ pub fn put(alloc: Global, journal: &Journal) -> Result<Vec<u8>, AllocError>
     Ok(out)
 }
 
+/// A number in four bytes, the greatest first.
 fn put_four(out: &mut Vec<u8>, number: u32) -> Result<(), AllocError>
     ensures { OnOk result (Writes ℕ (λ n. n < 2 ^ 32) (λ n. four n ∷ []) out.old.items out.new.items number) }
 {
     out.extend_from_slice(&number.to_be_bytes())
 }
 
+/// The events, one after the other.
 fn put_events(out: &mut Vec<u8>, events: &[Event]) -> Result<(), AllocError>
     ensures { OnOk result (WritesEach Event (λ event. IsReply event.reply) event_fields out.old.items out.new.items events.now) }
 {
@@ -60,6 +62,7 @@ fn put_event(out: &mut Vec<u8>, event: Event) -> Result<(), AllocError>
     put_reply(out, event.reply)
 }
 
+/// The byte of the kind of reply, then what it hands out.
 fn put_reply(out: &mut Vec<u8>, reply: Reply) -> Result<(), AllocError>
     ensures { OnOk result (Writes Reply IsReply reply_fields out.old.items out.new.items reply) }
 {
@@ -78,12 +81,14 @@ fn put_reply(out: &mut Vec<u8>, reply: Reply) -> Result<(), AllocError>
     }
 }
 
+/// The bytes of a value.
 fn put_one_value(out: &mut Vec<u8>, value: Value) -> Result<(), AllocError>
     ensures { OnOk result (Writes Value IsValue value_fields out.old.items out.new.items value) }
 {
     out.extend_from_slice(put_value(value).as_slice())
 }
 
+/// The byte of the fault, then the cell and the effect where it has one.
 fn put_fault(out: &mut Vec<u8>, fault: Fault) -> Result<(), AllocError>
     ensures { OnOk result (Writes Fault IsFault fault_fields out.old.items out.new.items fault) }
 {

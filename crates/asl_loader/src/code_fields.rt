@@ -9,6 +9,7 @@ use crate::shared_fields::{byte_at, two_at, with_item};
 use asl_code::{Function, Instr, Items, get_instr};
 use std::alloc::Global;
 
+/// The instruction in the next eight bytes, and the bytes behind them.
 fn instr_at(bytes: &[u8]) -> Result<(Instr, &[u8]), Stop>
     ensures { Gives (λ x. (x.0, x.1.now)) result (instr_at bytes.now) }
 {
@@ -42,6 +43,7 @@ fn function_at(bytes: &[u8]) -> Result<(Function, &[u8]), Stop>
     Ok((Function { params, regs, len }, rest))
 }
 
+/// So many classes of globals, or none where memory was refused, and the bytes behind them.
 pub(crate) fn classes_of(
     alloc: Global,
     count: u16,
@@ -59,6 +61,7 @@ pub(crate) fn classes_of(
     Ok((classes, rest))
 }
 
+/// So many functions, or none where memory was refused, and the bytes behind them.
 pub(crate) fn functions_of(
     alloc: Global,
     count: u16,
@@ -76,6 +79,7 @@ pub(crate) fn functions_of(
     Ok((functions, rest))
 }
 
+/// So many instructions, or none where memory was refused, and the bytes behind them.
 pub(crate) fn code_of(
     alloc: Global,
     count: u16,

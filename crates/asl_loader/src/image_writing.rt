@@ -30,6 +30,7 @@ pub fn store(alloc: Global, program: &Program) -> Result<Vec<u8>, AllocError>
     Ok(out)
 }
 
+/// All fields of an image, in the order of the format.
 fn put_image(out: &mut Vec<u8>, image: &Image) -> Result<(), AllocError>
     requires empty { out.old.items ≡ [] }
     requires has { HasFields image.now }
@@ -45,6 +46,7 @@ fn put_image(out: &mut Vec<u8>, image: &Image) -> Result<(), AllocError>
     put_lists(out, image.lists.as_slice())
 }
 
+/// How many globals there are, then the class of each.
 fn put_globals(out: &mut Vec<u8>, globals: &[u16]) -> Result<(), AllocError>
     requires { length globals.now < 2 ^ 16 }
     ensures { OnOk result (Writes (List ℕ) (AreItems ℕ (λ class. class < 2 ^ 16)) (counted class_fields)
@@ -54,6 +56,7 @@ fn put_globals(out: &mut Vec<u8>, globals: &[u16]) -> Result<(), AllocError>
     put_classes(out, globals)
 }
 
+/// The classes, two bytes each.
 fn put_classes(out: &mut Vec<u8>, classes: &[u16]) -> Result<(), AllocError>
     ensures { OnOk result (WritesEach ℕ (λ class. class < 2 ^ 16) class_fields out.old.items out.new.items classes.now) }
 {
@@ -63,6 +66,7 @@ fn put_classes(out: &mut Vec<u8>, classes: &[u16]) -> Result<(), AllocError>
     Ok(())
 }
 
+/// How many parameters, registers and instructions a function has.
 fn put_function(out: &mut Vec<u8>, function: &Function) -> Result<(), AllocError>
     requires { function.now.len < 2 ^ 16 }
     ensures { OnOk result (Writes Function IsFunction function_fields out.old.items out.new.items function.now) }
@@ -72,6 +76,7 @@ fn put_function(out: &mut Vec<u8>, function: &Function) -> Result<(), AllocError
     put_two(out, function.len as u16)
 }
 
+/// How many functions there are, then each.
 fn put_functions(out: &mut Vec<u8>, functions: &[Function]) -> Result<(), AllocError>
     requires count { length functions.now < 2 ^ 16 }
     requires each { AllByRecursion (λ f. f.len < 2 ^ 16) functions.now }
@@ -82,6 +87,7 @@ fn put_functions(out: &mut Vec<u8>, functions: &[Function]) -> Result<(), AllocE
     put_each_function(out, functions)
 }
 
+/// The functions, four bytes each.
 fn put_each_function(out: &mut Vec<u8>, functions: &[Function]) -> Result<(), AllocError>
     requires { AllByRecursion (λ f. f.len < 2 ^ 16) functions.now }
     ensures { OnOk result (WritesEach Function IsFunction function_fields out.old.items out.new.items functions.now) }
@@ -92,6 +98,7 @@ fn put_each_function(out: &mut Vec<u8>, functions: &[Function]) -> Result<(), Al
     Ok(())
 }
 
+/// How many instructions there are, then each.
 fn put_code(out: &mut Vec<u8>, code: &[Instr]) -> Result<(), AllocError>
     requires { length code.now < 2 ^ 16 }
     ensures { OnOk result (Writes (List Instr) (AreItems Instr IsInstr) (counted instr_fields)
@@ -101,6 +108,7 @@ fn put_code(out: &mut Vec<u8>, code: &[Instr]) -> Result<(), AllocError>
     put_instrs(out, code)
 }
 
+/// The instructions, eight bytes each.
 fn put_instrs(out: &mut Vec<u8>, code: &[Instr]) -> Result<(), AllocError>
     ensures { OnOk result (WritesEach Instr IsInstr instr_fields out.old.items out.new.items code.now) }
 {
@@ -110,12 +118,14 @@ fn put_instrs(out: &mut Vec<u8>, code: &[Instr]) -> Result<(), AllocError>
     Ok(())
 }
 
+/// The eight bytes of an instruction.
 fn put_one_instr(out: &mut Vec<u8>, instr: &Instr) -> Result<(), AllocError>
     ensures { OnOk result (Writes Instr IsInstr instr_fields out.old.items out.new.items instr.now) }
 {
     out.extend_from_slice(&put_instr(instr))
 }
 
+/// How many lists there are, then each.
 fn put_lists(out: &mut Vec<u8>, lists: &[Items<Lock>]) -> Result<(), AllocError>
     requires count { length lists.now < 2 ^ 16 }
     requires each { AllByRecursion (λ locks. length locks < 2 ^ 16) lists.now }
@@ -126,6 +136,7 @@ fn put_lists(out: &mut Vec<u8>, lists: &[Items<Lock>]) -> Result<(), AllocError>
     put_each_list(out, lists)
 }
 
+/// The lists, one after the other.
 fn put_each_list(out: &mut Vec<u8>, lists: &[Items<Lock>]) -> Result<(), AllocError>
     requires { AllByRecursion (λ locks. length locks < 2 ^ 16) lists.now }
     ensures { OnOk result (WritesEach (List Lock) IsList list_fields out.old.items out.new.items lists.now) }
@@ -136,6 +147,7 @@ fn put_each_list(out: &mut Vec<u8>, lists: &[Items<Lock>]) -> Result<(), AllocEr
     Ok(())
 }
 
+/// How many locks a list has, then each.
 fn put_list(out: &mut Vec<u8>, locks: &[Lock]) -> Result<(), AllocError>
     requires { length locks.now < 2 ^ 16 }
     ensures { OnOk result (Writes (List Lock) IsList list_fields out.old.items out.new.items locks.now) }
@@ -144,6 +156,7 @@ fn put_list(out: &mut Vec<u8>, locks: &[Lock]) -> Result<(), AllocError>
     put_locks(out, locks)
 }
 
+/// The locks, one after the other.
 fn put_locks(out: &mut Vec<u8>, locks: &[Lock]) -> Result<(), AllocError>
     ensures { OnOk result (WritesEach Lock IsLock lock_fields out.old.items out.new.items locks.now) }
 {
@@ -153,6 +166,7 @@ fn put_locks(out: &mut Vec<u8>, locks: &[Lock]) -> Result<(), AllocError>
     Ok(())
 }
 
+/// The byte of the kind of lock, its effect, and what it is on.
 fn put_lock(out: &mut Vec<u8>, lock: &Lock) -> Result<(), AllocError>
     ensures { OnOk result (Writes Lock IsLock lock_fields out.old.items out.new.items lock.now) }
 {
@@ -183,6 +197,7 @@ fn put_lock(out: &mut Vec<u8>, lock: &Lock) -> Result<(), AllocError>
     }
 }
 
+/// How many operations a path has, then each.
 fn put_path(out: &mut Vec<u8>, path: &Path) -> Result<(), AllocError>
     ensures { OnOk result (Writes (List Op) IsPath path_fields out.old.items out.new.items path.now) }
 {
@@ -190,6 +205,7 @@ fn put_path(out: &mut Vec<u8>, path: &Path) -> Result<(), AllocError>
     put_ops(out, path.as_slice())
 }
 
+/// The operations, one after the other.
 fn put_ops(out: &mut Vec<u8>, ops: &[Op]) -> Result<(), AllocError>
     ensures { OnOk result (WritesEach Op IsOp op_fields out.old.items out.new.items ops.now) }
 {
@@ -199,6 +215,7 @@ fn put_ops(out: &mut Vec<u8>, ops: &[Op]) -> Result<(), AllocError>
     Ok(())
 }
 
+/// The byte of the operation, then the offset where it has one.
 fn put_op(out: &mut Vec<u8>, op: Op) -> Result<(), AllocError>
     ensures { OnOk result (Writes Op IsOp op_fields out.old.items out.new.items op) }
 {

@@ -10,6 +10,7 @@ use crate::shared_fields::{below_at, byte_at, effect_at, two_at};
 use asl_code::{Base, Effect, Expr, Items, Lock, NEWEST_LIMITS, Op, Path, image_limits};
 use std::alloc::Global;
 
+/// The operation at the front of the bytes, and the bytes behind it.
 #[tactic(auto, unfolding(crate::specs::ImageFields::op_at))]
 fn op_at(bytes: &[u8]) -> Result<(Op, &[u8]), Stop>
     ensures { Gives (λ x. (x.0, x.1.now)) result (op_at bytes.now) }
@@ -22,6 +23,7 @@ fn op_at(bytes: &[u8]) -> Result<(Op, &[u8]), Stop>
     Ok((Op::Off(offset), rest))
 }
 
+/// The path of so many operations, and the bytes behind it.
 fn ops_of(count: u8, bytes: &[u8]) -> Result<(Path, &[u8]), Stop>
     requires { count ≤ 8 }
     ensures { Gives (λ x. (x.0, x.1.now)) result (items_at op_at count bytes.now) }
@@ -118,6 +120,7 @@ fn locks_of(
     Ok((locks, rest))
 }
 
+/// The list at the front of the bytes, of as many locks as its first two bytes say, and the bytes behind it.
 #[tactic(auto, unfolding(crate::specs::ImageFields::list_at, crate::specs::ImageFields::counted_at))]
 fn list_at(alloc: Global, bytes: &[u8]) -> Result<(Result<Items<Lock>, Lost>, &[u8]), Stop>
     ensures { Holds is_short (λ x. x.0) (λ x. x.1.now) result (list_at bytes.now) }

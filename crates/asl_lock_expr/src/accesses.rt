@@ -50,6 +50,7 @@ pub fn add_dereferenced(lock: &Lock, into: &mut Vec<Lock>) -> Result<(), AllocEr
     }
 }
 
+/// Adds a lock to read on each cell that is read on the way to the expression's.
 fn add_prefixes(expr: &Expr, into: &mut Vec<Lock>) -> Result<(), AllocError>
     ensures ok { OnOk result (into.new.items ≡ into.old.items ++ prefixes expr.now.base [] expr.now.path) }
     ensures err { OnErr result (HasGrown into.old.items into.new.items) }

@@ -166,6 +166,7 @@ fn add_stored(
     add_hits(view, address, from, expr, effect, into)
 }
 
+/// Adds what the lock may be before a store through `address`, for each place of its path where the stored cell may be read.
 fn add_hits(
     view: &LinkContext,
     address: u8,

@@ -12,6 +12,7 @@ use crate::text_piece::{Area, Named, Piece};
 use asl_syntax::Name;
 use std::alloc::{AllocError, Global};
 
+/// Adds a line a function.
 fn push_functions(text: &mut String, functions: &[Named]) -> Result<(), AllocError>
     ensures { OnOk result (string_bytes text.new ≡ string_bytes text.old ++ numbered function_line 0 functions.now) }
 {
@@ -21,6 +22,7 @@ fn push_functions(text: &mut String, functions: &[Named]) -> Result<(), AllocErr
     Ok(())
 }
 
+/// Adds a line for each function that `main` does not reach.
 fn push_all_unreached(
     text: &mut String,
     reached: &[bool],
@@ -34,6 +36,7 @@ fn push_all_unreached(
     Ok(())
 }
 
+/// Adds a line for each register of a function.
 fn push_registers_of(text: &mut String, function: usize, names: &[Name]) -> Result<(), AllocError>
     ensures { OnOk result (string_bytes text.new ≡ string_bytes text.old ++ numbered (register_line function) 0 names.now) }
 {
@@ -43,6 +46,7 @@ fn push_registers_of(text: &mut String, function: usize, names: &[Name]) -> Resu
     Ok(())
 }
 
+/// Adds the registers of all functions.
 fn push_registers(text: &mut String, registers: &[Vec<Name>]) -> Result<(), AllocError>
     ensures { OnOk result (string_bytes text.new ≡ string_bytes text.old ++ numbered registers_text 0 registers.now) }
 {
@@ -52,6 +56,7 @@ fn push_registers(text: &mut String, registers: &[Vec<Name>]) -> Result<(), Allo
     Ok(())
 }
 
+/// Adds a line a global.
 fn push_globals(text: &mut String, globals: &[Name]) -> Result<(), AllocError>
     ensures { OnOk result (string_bytes text.new ≡ string_bytes text.old ++ numbered global_line 0 globals.now) }
 {
@@ -61,6 +66,7 @@ fn push_globals(text: &mut String, globals: &[Name]) -> Result<(), AllocError>
     Ok(())
 }
 
+/// Adds a line for each global of a class.
 fn push_global_members(text: &mut String, class: u16, members: &[u16]) -> Result<(), AllocError>
     ensures { OnOk result (string_bytes text.new ≡ string_bytes text.old ++ numbered (global_member class) 0 members.now) }
 {
@@ -70,6 +76,7 @@ fn push_global_members(text: &mut String, class: u16, members: &[u16]) -> Result
     Ok(())
 }
 
+/// Adds a line for each `new` of a class.
 fn push_site_members(text: &mut String, class: u16, members: &[u16]) -> Result<(), AllocError>
     ensures { OnOk result (string_bytes text.new ≡ string_bytes text.old ++ numbered (site_member class) 0 members.now) }
 {
@@ -79,6 +86,7 @@ fn push_site_members(text: &mut String, class: u16, members: &[u16]) -> Result<(
     Ok(())
 }
 
+/// Adds the members of a class: its globals, then what each `new` of it makes.
 fn push_members(text: &mut String, map: &Map, class: u16) -> Result<(), AllocError>
     ensures { OnOk result (string_bytes text.new ≡ string_bytes text.old ++ members_text map.now class) }
 {
@@ -86,6 +94,7 @@ fn push_members(text: &mut String, map: &Map, class: u16) -> Result<(), AllocErr
     push_site_members(text, class, &map.site_classes)
 }
 
+/// Adds the members of each class.
 fn push_classes(text: &mut String, map: &Map) -> Result<(), AllocError>
     ensures { OnOk result (string_bytes text.new ≡ string_bytes text.old ++ texts_from (members_text map.now) 0 map.now.classes) }
 {
@@ -95,6 +104,7 @@ fn push_classes(text: &mut String, map: &Map) -> Result<(), AllocError>
     Ok(())
 }
 
+/// Adds a line a section, with its lines of the source.
 fn push_sections(text: &mut String, sections: &[Area]) -> Result<(), AllocError>
     ensures { OnOk result (string_bytes text.new ≡ string_bytes text.old ++ numbered section_line 0 sections.now) }
 {
@@ -104,6 +114,7 @@ fn push_sections(text: &mut String, sections: &[Area]) -> Result<(), AllocError>
     Ok(())
 }
 
+/// Adds a line for each `new`, with its lines of the source.
 fn push_sites(text: &mut String, sites: &[Area]) -> Result<(), AllocError>
     ensures { OnOk result (string_bytes text.new ≡ string_bytes text.old ++ numbered site_line 0 sites.now) }
 {
@@ -113,6 +124,7 @@ fn push_sites(text: &mut String, sites: &[Area]) -> Result<(), AllocError>
     Ok(())
 }
 
+/// Adds a line an instruction, with the statement that it is of.
 fn push_places(text: &mut String, pieces: &[Piece]) -> Result<(), AllocError>
     ensures { OnOk result (string_bytes text.new ≡ string_bytes text.old ++ numbered place_line 0 pieces.now) }
 {

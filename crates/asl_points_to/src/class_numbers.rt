@@ -21,7 +21,7 @@ pub struct ClassNumbers {
     pub firsts: Vec<u32>,
 }
 
-/// ClassNumbers the classes of so many members by their first members.
+/// Numbers the classes of so many members by their first members.
 pub fn number_classes(
     alloc: Global,
     sets: &mut DisjointSets,
@@ -57,7 +57,7 @@ fn numbered(of: &[u32], member: Option<u32>) -> Option<u16>
     Some(of[member? as usize] as u16)
 }
 
-/// ClassNumbers that are small.
+/// The same numbers in two bytes each, since none is greater.
 pub fn narrowed(alloc: Global, numbers: &[u32]) -> Result<Vec<u16>, AllocError>
     requires { All (λ n. n < 65536) numbers.now }
     ensures { IfOk result (λ v. v.items ≡ numbers.now) }

@@ -216,6 +216,7 @@ pub(crate) fn name_of(mode: Mode) -> Option<&'static str>
     }
 }
 
+/// Adds the words of a node of the lock tree.
 pub(crate) fn push_node(text: &mut String, node: Node) -> Result<(), AllocError>
     ensures { OnOk result (string_bytes text.new ≡ string_bytes text.old ++ node_text node) }
 {

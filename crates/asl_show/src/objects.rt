@@ -42,6 +42,7 @@ pub fn push_cells(text: &mut String, machine: &Machine<'_>) -> Result<(), AllocE
     Ok(())
 }
 
+/// Adds a line for each cell of an object.
 fn push_object(text: &mut String, machine: &Machine<'_>, object: u16) -> Result<(), AllocError>
     ensures { OnOk result (string_bytes text.new ≡ string_bytes text.old ++ object_text machine.now.state object) }
 {

@@ -21,6 +21,7 @@ pub fn push_stack(text: &mut String, machine: &Machine<'_>) -> Result<(), AllocE
     Ok(())
 }
 
+/// Adds the frames of a thread, the first called first.
 fn push_frames(text: &mut String, machine: &Machine<'_>, t: u32) -> Result<(), AllocError>
     requires { t < length machine.now.state.threads }
     ensures { OnOk result (string_bytes text.new ≡ string_bytes text.old ++ stack_of machine.now.state t) }
@@ -52,6 +53,7 @@ fn push_frame(
     }
 }
 
+/// Adds the registers of a frame.
 fn push_locals(
     text: &mut String,
     machine: &Machine<'_>,

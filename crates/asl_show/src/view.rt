@@ -24,6 +24,7 @@ pub fn push_view(text: &mut String, machine: &Machine<'_>) -> Result<(), AllocEr
     push_all_fresh(text, machine)
 }
 
+/// Adds where each thread stands, and its registers.
 fn push_threads(text: &mut String, machine: &Machine<'_>) -> Result<(), AllocError>
     ensures { OnOk result (string_bytes text.new ≡ string_bytes text.old
         ++ lines_from (thread_text machine.now.state) 0 (length machine.now.state.threads)) }
@@ -34,6 +35,7 @@ fn push_threads(text: &mut String, machine: &Machine<'_>) -> Result<(), AllocErr
     Ok(())
 }
 
+/// Adds where a thread stands, and its registers.
 fn push_thread(text: &mut String, machine: &Machine<'_>, t: u32) -> Result<(), AllocError>
     requires { t < length machine.now.state.threads }
     ensures { OnOk result (string_bytes text.new ≡ string_bytes text.old ++ thread_text machine.now.state t) }
@@ -67,6 +69,7 @@ fn push_place(text: &mut String, machine: &Machine<'_>, t: u32) -> Result<(), Al
     }
 }
 
+/// Adds a line for each register of a thread's last frame.
 fn push_registers(text: &mut String, machine: &Machine<'_>, t: u32) -> Result<(), AllocError>
     requires { t < length machine.now.state.threads }
     ensures { OnOk result (string_bytes text.new ≡ string_bytes text.old
@@ -98,6 +101,7 @@ fn push_register(
     }
 }
 
+/// Adds what each thread holds.
 fn push_holdings(text: &mut String, classes: u32, machine: &Machine<'_>) -> Result<(), AllocError>
     requires { classes ≤ 65536 }
     ensures { OnOk result (string_bytes text.new ≡ string_bytes text.old
@@ -123,6 +127,7 @@ fn push_holding(
     push_nodes(text, classes, machine, t, &About::Held)
 }
 
+/// Adds which new objects each thread needs no lock for.
 fn push_all_fresh(text: &mut String, machine: &Machine<'_>) -> Result<(), AllocError>
     ensures { OnOk result (string_bytes text.new ≡ string_bytes text.old
         ++ lines_from (fresh_text machine.now.state) 0 (length machine.now.state.threads)) }
