@@ -1,4 +1,4 @@
-/* Sections under the lock forest of asl.h, which is proved, under one guard.
+/* Sections under the lock forest and the queue of asl.h, which are proved, under one guard (asl_holding.h says when which).
  *
  * A list is evaluated under the guard, and what it asks for is granted or refused before the guard is given up. Cells need not be atomic for
  * that: a cell that another thread covers for writing is not read, but refused at once (docs/RACES.md, "Tries").
@@ -8,23 +8,20 @@
  * in his way, or what his list asks for now is granted. So only those are woken who go on, and the others cost nothing. They look a moment before
  * they sleep. A thread has a number in the forest only while it holds something. */
 #define _POSIX_C_SOURCE 200809L
-#include "inside.h"
-#include <stdio.h>
+#include "asl_holding.h"
 #include <stdlib.h>
 
-enum { MOST_AT_ONCE = 128, MOST_WOKEN = 16, GUARD_SPIN_NS = 10000, TALLIES = 1 << 10 };
+enum { MOST_WOKEN = 16, GUARD_SPIN_NS = 10000, TALLIES = 1 << 10 };
 
 enum { WAITS, GOES_ON, SLEEPS }; /* what `state` is */
 
 typedef struct forest_thread {
+  aslr_hold hold;   /* first, so that who holds is found by it */
   request asked;    /* what the thread holds, or waits for */
   request before;   /* room: what it waited for at the last look */
-  asl_ask *asks;    /* room: the same for the forest */
   bool holds;
   bool held_back;   /* it waits for a cell that its list reads: what else it will ask for is not known yet */
   bool writes;
-  uint32_t number;  /* while it holds */
-  uint32_t place;   /* among the holders */
   struct forest_thread *next, *last; /* in the queue, while it waits */
   uint64_t turn;    /* while it waits: who came before has a lesser one; else 0 */
   struct forest_thread *behind; /* while it waits: one who is in its way; NULL: there was no number for it */
@@ -45,12 +42,10 @@ typedef struct {
 } tally;
 
 typedef struct {
-  asl_forest forest;
-  _Alignas(64) pthread_mutex_t guard; /* for all that follows, and the forest */
+  aslr_holding held;
+  _Alignas(64) pthread_mutex_t guard; /* for all that follows, and what is held */
   atomic_bool busy;                   /* whether somebody has the guard: for those who spin */
-  uint32_t holder_count, free_count, waiter_count;
-  forest_thread *holders[MOST_AT_ONCE];
-  uint8_t free[MOST_AT_ONCE];         /* numbers */
+  uint32_t waiter_count;
   forest_thread *first, *last;        /* the queue */
   uint64_t turns;                     /* how often somebody began to wait */
   tally tallies[TALLIES];             /* each of the nodes of a hash */
@@ -59,10 +54,8 @@ typedef struct {
 
 static inline forest_engine *of_runtime(const aslr_runtime *runtime) { return runtime->engine_at; }
 
-static _Noreturn void broken(const char *what, uint32_t status) {
-  fprintf(stderr, "asl: %s: status %u\n", what, status);
-  abort();
-}
+/* who holds something, at this place among them */
+static inline forest_thread *holder(const forest_engine *engine, uint32_t place) { return (forest_thread *)engine->held.holds[place]; }
 
 static bool try_guard(forest_engine *engine) {
   return !atomic_load_explicit(&engine->busy, memory_order_relaxed) && pthread_mutex_trylock(&engine->guard) == 0;
@@ -125,16 +118,16 @@ static bool may_read(mine *self, aslr_value at) {
   return true;
 #endif
   const forest_engine *engine = of_runtime(self->thread.runtime);
-  for (uint32_t h = 0; h < engine->holder_count; h++) {
-    const forest_thread *other = engine->holders[h];
+  for (uint32_t h = 0; h < engine->held.count; h++) {
+    const forest_thread *other = holder(engine, h);
     if (other->self != self && other->writes && covers_for_writing(&other->asked, at)) return false;
   }
   return true;
 }
 
 static void ask_cell(request *all, aslr_value at, uint8_t mode, uint8_t above) {
-  ask(all, root_node(), above);
-  ask(all, class_node(aslr_object_of(at)->klass), above);
+  ask_above(all, root_node(), above);
+  ask_above(all, class_node(aslr_object_of(at)->klass), above);
   ask(all, leaf_node(at), mode);
 }
 
@@ -142,10 +135,10 @@ static void ask_lock(forest_thread *my, const aslr_lock *lock) {
   uint8_t above = lock->mode == ASL_X ? ASL_IX : ASL_IS;
   aslr_value at;
   if (lock->kind == ASL_ROOT) {
-    ask(&my->asked, root_node(), lock->mode);
+    ask_above(&my->asked, root_node(), lock->mode);
   } else if (lock->kind == ASL_CLASS) {
-    ask(&my->asked, root_node(), above);
-    ask(&my->asked, class_node(lock->at), lock->mode);
+    ask_above(&my->asked, root_node(), above);
+    ask_above(&my->asked, class_node(lock->at), lock->mode);
   } else {
     switch (locate(my->self->thread.runtime, lock, my->registers, may_read, my->self, &at)) {
     case A_CELL: ask_cell(&my->asked, at, lock->mode, above); break;
@@ -202,8 +195,8 @@ static forest_thread *waits_before(const forest_engine *engine, const forest_thr
 
 /* one who holds what clashes */
 static forest_thread *holds_before(const forest_engine *engine, const forest_thread *my) {
-  for (uint32_t h = 0; h < engine->holder_count; h++)
-    if (clash(&engine->holders[h]->asked, &my->asked)) return engine->holders[h];
+  for (uint32_t h = 0; h < engine->held.count; h++)
+    if (clash(&holder(engine, h)->asked, &my->asked)) return holder(engine, h);
   return NULL;
 }
 
@@ -240,31 +233,19 @@ static void end_to_wait(forest_engine *engine, forest_thread *my) {
   engine->waiter_count--;
 }
 
-/* Grants what is asked, in the forest too, where nobody is in the way; `before`: one who waits and is. Returns ASLR_OK, ASL_IN_THE_WAY or
- * ASLR_NO_MEMORY. */
+/* Grants what is asked where nobody is in the way; `before`: one who waits and is. Returns ASLR_OK, ASL_IN_THE_WAY or ASLR_NO_MEMORY. */
 static uint32_t grant(forest_engine *engine, forest_thread *my, const forest_thread *before) {
   if (my->asked.count == 0) return ASLR_OK;
-  if (my->held_back || engine->free_count == 0 || before) return ASL_IN_THE_WAY;
-  uint32_t number = engine->free[engine->free_count - 1];
-  for (size_t i = 0; i < my->asked.count; i++) my->asks[i] = as_ask(my->asked.wants[i]);
-  uint32_t status = asl_forest_try_acquire(&engine->forest, number, my->asks, my->asked.count);
-  if (status == ASL_IN_THE_WAY || status == ASL_NO_MEMORY) return status;
-  if (status != ASL_OK) broken("a request is refused", status);
-  engine->free_count--;
-  my->number = number;
-  my->place = engine->holder_count;
-  engine->holders[engine->holder_count++] = my;
-  my->holds = true;
-  return ASLR_OK;
+  if (my->held_back || aslr_holding_is_full(&engine->held) || before) return ASL_IN_THE_WAY;
+  my->hold.count = my->asked.count;
+  for (size_t i = 0; i < my->asked.count; i++) my->hold.asks[i] = as_ask(my->asked.wants[i]);
+  uint32_t status = aslr_holding_grant(&engine->held, &my->hold);
+  my->holds = status == ASLR_OK;
+  return status;
 }
 
 static void give_back(forest_engine *engine, forest_thread *my) {
-  uint32_t status = asl_forest_release(&engine->forest, my->number);
-  if (status != ASL_OK) broken("a release is refused", status);
-  engine->free[engine->free_count++] = (uint8_t)my->number;
-  forest_thread *moved = engine->holders[--engine->holder_count];
-  engine->holders[my->place] = moved;
-  moved->place = my->place;
+  aslr_holding_give_back(&engine->held, &my->hold);
   my->holds = false;
 }
 
@@ -321,11 +302,11 @@ static void look_at(forest_engine *engine, forest_thread *my, forest_thread **go
  * another in his way; `all`: or nobody, since there was no number. Where what somebody asks for has changed, all are looked at too. */
 static forest_thread *find_all(forest_engine *engine, const forest_thread *gone, bool all) {
   forest_thread *go = NULL;
-  for (forest_thread *next, *w = gone->first_follower; w && engine->free_count > 0 && !all; w = next) {
+  for (forest_thread *next, *w = gone->first_follower; w && !aslr_holding_is_full(&engine->held) && !all; w = next) {
     next = w->next_behind;
     look_at(engine, w, &go, &all);
   }
-  for (forest_thread *next, *w = engine->first; w && engine->free_count > 0 && all; w = next) {
+  for (forest_thread *next, *w = engine->first; w && !aslr_holding_is_full(&engine->held) && all; w = next) {
     next = w->next;
     look_at(engine, w, &go, &all);
   }
@@ -387,7 +368,8 @@ static uint32_t acquire(mine *self, const list *of, const aslr_value *registers)
   }
   take_guard(engine);
   if (of->follows) evaluate(my);
-  forest_thread *before = engine->free_count > 0 && may_clash(engine, &my->asked) ? waits_before(engine, my) : NULL;
+  bool is_full = aslr_holding_is_full(&engine->held);
+  forest_thread *before = !is_full && may_clash(engine, &my->asked) ? waits_before(engine, my) : NULL;
   uint32_t status = grant(engine, my, before);
   if (status != ASL_IN_THE_WAY) {
     give_guard(engine);
@@ -396,8 +378,8 @@ static uint32_t acquire(mine *self, const list *of, const aslr_value *registers)
   self->thread.counts.refusals++;
   atomic_store_explicit(&my->state, WAITS, memory_order_relaxed);
   begin_to_wait(engine, my);
-  stand_behind(my, before || engine->free_count == 0 ? before : holds_before(engine, my));
-  bool crowded = engine->holder_count + engine->waiter_count > self->thread.runtime->processors;
+  stand_behind(my, before || is_full ? before : holds_before(engine, my));
+  bool crowded = engine->held.count + engine->waiter_count > self->thread.runtime->processors;
   give_guard(engine);
   wait_for_turn(my, crowded ? 1 : self->thread.runtime->spin_ns);
   return my->status;
@@ -409,9 +391,9 @@ static void release(mine *self) {
   sleepers asleep;
   if (!my->holds) return;
   take_guard(engine);
-  bool had_none = engine->free_count == 0;
+  bool was_full = aslr_holding_is_full(&engine->held);
   give_back(engine, my);
-  let_all_on(find_all(engine, my, had_none), &asleep);
+  let_all_on(find_all(engine, my, was_full), &asleep);
   give_guard(engine);
   for (size_t i = 0; i < asleep.count; i++) wake(asleep.threads[i]);
 }
@@ -422,11 +404,9 @@ static bool covers(mine *self, aslr_value at, bool writes) {
   if (!my->holds) return false;
   const aslr_object *object = aslr_object_of(at);
   const asl_ask cell = {ASL_LEAF, 0, aslr_offset_of(at), object->klass, object->number};
-  bool found = false;
   take_guard(engine);
-  uint32_t status = asl_forest_covers(&engine->forest, my->number, &cell, writes, &found);
+  bool found = aslr_holding_covers(&engine->held, &my->hold, &cell, writes);
   give_guard(engine);
-  if (status != ASL_OK) broken("a question is refused", status);
   return found;
 }
 
@@ -436,13 +416,13 @@ static uint32_t thread_open(mine *self) {
   my->self = self;
   my->asked.wants = calloc(room, sizeof(want));
   my->before.wants = calloc(room, sizeof(want));
-  my->asks = calloc(room, sizeof(asl_ask));
-  bool whole = my->asked.wants && my->before.wants && my->asks && pthread_mutex_init(&my->mutex, NULL) == 0;
+  my->hold.asks = calloc(room, sizeof(asl_ask));
+  bool whole = my->asked.wants && my->before.wants && my->hold.asks && pthread_mutex_init(&my->mutex, NULL) == 0;
   if (whole && pthread_cond_init(&my->wake, NULL) == 0) return ASLR_OK;
   if (whole) pthread_mutex_destroy(&my->mutex);
   free(my->asked.wants);
   free(my->before.wants);
-  free(my->asks);
+  free(my->hold.asks);
   return ASLR_NO_MEMORY;
 }
 
@@ -452,12 +432,12 @@ static void thread_close(mine *self) {
   pthread_mutex_destroy(&my->mutex);
   free(my->asked.wants);
   free(my->before.wants);
-  free(my->asks);
+  free(my->hold.asks);
 }
 
 static void close_engine(aslr_runtime *runtime) {
   forest_engine *engine = of_runtime(runtime);
-  if (engine->forest.live) asl_forest_free(&engine->forest);
+  aslr_holding_close(&engine->held);
   if (engine->has_mutex) pthread_mutex_destroy(&engine->guard);
   free(engine);
   runtime->engine_at = NULL;
@@ -466,11 +446,11 @@ static void close_engine(aslr_runtime *runtime) {
 static uint32_t open_engine(aslr_runtime *runtime, const aslr_options *options) {
   forest_engine *engine = aligned_alloc(64, (sizeof *engine + 63) & ~(size_t)63);
   if (!engine) return ASLR_NO_MEMORY;
-  *engine = (forest_engine){.free_count = options->at_once ? options->at_once : MOST_AT_ONCE};
+  *engine = (forest_engine){0};
   runtime->engine_at = engine;
-  for (uint32_t n = 0; n < engine->free_count; n++) engine->free[n] = (uint8_t)(engine->free_count - 1 - n);
   engine->has_mutex = pthread_mutex_init(&engine->guard, NULL) == 0;
-  return engine->has_mutex ? asl_forest_new(runtime->program->classes, engine->free_count, &engine->forest) : (uint32_t)ASLR_NO_MEMORY;
+  if (!engine->has_mutex) return ASLR_NO_MEMORY;
+  return aslr_holding_open(&engine->held, runtime->program->classes, options->at_once ? options->at_once : MOST_AT_ONCE, runtime->longest);
 }
 
 const engine aslr_forest_engine = {open_engine, close_engine, sizeof(forest_thread), thread_open, thread_close, acquire, release, covers};

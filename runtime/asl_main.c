@@ -103,7 +103,7 @@ static bool read_usage(int argc, char **argv, usage *into) {
     else if (strcmp(word, "--share-numbers") == 0)
       into->options.shares_numbers = true;
     else if (strcmp(word, "--engine") == 0 && i + 1 < argc && strcmp(argv[i + 1], "forest") == 0)
-      i++;
+      into->options.engine = ASLR_FOREST, i++;
     else if (strcmp(word, "--engine") == 0 && i + 1 < argc && strcmp(argv[i + 1], "words") == 0)
       into->options.engine = ASLR_WORDS, i++;
     else if (i + 1 < argc || !read_threads(word, &into->threads))

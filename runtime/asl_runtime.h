@@ -236,7 +236,7 @@ static inline void aslr_must_be_address(aslr_thread *t, aslr_value b) {
 }
 static inline aslr_value aslr_field(aslr_thread *t, aslr_value b, uint32_t i) {
   aslr_must_be_address(t, b);
-  if (aslr_offset_of(b) + i >= aslr_object_of(b)->size) aslr_fault(t, ASLR_FAULT_BOUNDS);
+  if ((uint64_t)aslr_offset_of(b) + i >= aslr_object_of(b)->size) aslr_fault(t, ASLR_FAULT_BOUNDS); /* C may ask for any i */
   return b + ((aslr_value)i << 56);
 }
 static inline aslr_value aslr_load(aslr_thread *t, aslr_value b) {

@@ -1,5 +1,5 @@
-/* Sections under an atomic word for each node, without the lock forest and without a guard. TESTED, NOT PROVED: who wants the proof takes the
- * engine `forest`.
+/* Sections under an atomic word for each node, without the lock forest and without a guard. TESTED, NOT PROVED: who wants the proved
+ * lock forest under his sections takes the engine `forest`.
  *
  * A request's nodes are taken one after the other, in one order for all threads, so nobody waits in a circle. The moment at which the last is
  * taken is that of the grant. Meanwhile others may have stored to the cells that the list reads: so where it reads any it is evaluated once
@@ -87,13 +87,13 @@ static void ask_lock(const aslr_runtime *runtime, const aslr_lock *lock, const a
   uint8_t above = lock->mode == ASL_X ? ASL_IX : ASL_IS;
   aslr_value at;
   if (lock->kind == ASL_ROOT) {
-    ask(all, 0, lock->mode);
+    ask_above(all, 0, lock->mode);
   } else if (lock->kind == ASL_CLASS) {
-    if (engine->root_is_named) ask(all, 0, above);
+    if (engine->root_is_named) ask_above(all, 0, above);
     ask(all, class_node(lock->at), lock->mode);
   } else if (locate(runtime, lock, registers, NULL, NULL, &at) == A_CELL) {
     uint16_t klass = aslr_object_of(at)->klass;
-    if (engine->root_is_named) ask(all, 0, above);
+    if (engine->root_is_named) ask_above(all, 0, above);
     if (engine->class_is_named[klass]) ask(all, class_node(klass), above);
     ask(all, leaf_node(runtime, at), lock->mode);
   }

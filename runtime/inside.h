@@ -24,17 +24,28 @@ static inline bool modes_clash(uint8_t a, uint8_t b) {
   return ((a & 2) && (b & 4)) || ((a & 4) && (b & 2)) || ((a & 8) && (b & 1)) || ((a & 1) && (b & 8));
 }
 
-/* asks for the mode at the node too */
-static inline void ask(request *all, uint64_t node, uint8_t mode) {
-  size_t place = all->count;
-  while (place > 0 && node_of(all->wants[place - 1]) > node) place--;
-  if (place > 0 && node_of(all->wants[place - 1]) == node) {
-    all->wants[place - 1] |= mode;
+/* asks for the mode at the node too, whose place among the others this is */
+static inline void ask_at(request *all, size_t place, uint64_t node, uint8_t mode) {
+  if (place < all->count && node_of(all->wants[place]) == node) {
+    all->wants[place] |= mode;
     return;
   }
   for (size_t i = all->count; i > place; i--) all->wants[i] = all->wants[i - 1];
   all->wants[place] = node << 8 | mode;
   all->count++;
+}
+
+/* Asks for the mode at the node too. Its place is looked for from the end; what is above leaves stands in front, and is looked for from there. */
+static inline void ask(request *all, uint64_t node, uint8_t mode) {
+  size_t place = all->count;
+  while (place > 0 && node_of(all->wants[place - 1]) >= node) place--;
+  ask_at(all, place, node, mode);
+}
+
+static inline void ask_above(request *all, uint64_t node, uint8_t mode) {
+  size_t place = 0;
+  while (place < all->count && node_of(all->wants[place]) < node) place++;
+  ask_at(all, place, node, mode);
 }
 
 static inline bool same_request(const request *a, const request *b) {

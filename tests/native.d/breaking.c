@@ -1,6 +1,6 @@
-/* What may go wrong around sections, under both engines: threads that are opened again, too many of them, cancelled while they wait, and given up in
- * sections; crowds that wait; runtimes that are closed as soon as they may be; signals; a process that was forked; lists as long as they may be; and
- * a heap whose objects change their shape while lists are evaluated. */
+/* What may go wrong around sections, under both engines: cells outside of objects; threads that are opened again, too many of them, cancelled
+ * while they wait, and given up in sections; crowds that wait; runtimes that are closed as soon as they may be; signals; a process that was forked;
+ * lists as long as they may be; and a heap whose objects change their shape while lists are evaluated. */
 #define _POSIX_C_SOURCE 200809L
 #ifdef __linux__
 #define _GNU_SOURCE /* for sched_setaffinity */
@@ -62,6 +62,28 @@ static aslr_thread *thread_of(aslr_runtime *runtime) {
 
 static void end(aslr_runtime *runtime, aslr_thread *thread) {
   MUST(aslr_thread_close(thread) == ASLR_OK && aslr_close(runtime) == ASLR_OK);
+}
+
+/* ---- cells */
+
+/* whether so many cells on from an address is a fault */
+static bool is_outside(aslr_thread *t, aslr_value at, uint32_t on) {
+  if (setjmp(t->failed)) return t->ended_by == ASLR_FAULT_BOUNDS;
+  aslr_field(t, at, on);
+  return false;
+}
+
+/* C may go on by any number, also by one that leads around to an earlier cell in 32 bits or in 8. */
+static void stays_in_objects(void) {
+  aslr_runtime *runtime = opened_for(&program, 0);
+  aslr_thread *t = thread_of(runtime);
+  aslr_value made;
+  MUST(aslr_object_new(t, 3, 1, &made) == ASLR_OK);
+  aslr_value last = aslr_field(t, made, 2);
+  MUST(!is_outside(t, made, 2) && is_outside(t, made, 3) && !is_outside(t, last, 0) && is_outside(t, last, 1));
+  MUST(is_outside(t, last, 254) && is_outside(t, last, 255) && is_outside(t, last, 256));
+  MUST(is_outside(t, last, UINT32_MAX) && is_outside(t, last, UINT32_MAX - 1));
+  end(runtime, t);
 }
 
 /* ---- threads */
@@ -479,6 +501,7 @@ int main(void) {
   for (int e = 0; e < 2; e++) {
     engine = e ? ASLR_WORDS : ASLR_FOREST;
     goes_on_in_a_fork();
+    stays_in_objects();
     is_opened_anew();
     opens_many();
     is_cancelled();

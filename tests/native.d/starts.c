@@ -1,7 +1,7 @@
 /* `main` of a printed program where the start of a thread is refused, or memory. Each thread makes an object and puts it into a global, in a section.
  * Link it as refusing.h says, with --wrap=pthread_create besides.
  * usage: starts thread N WORD..     the start of thread N is refused, then all begins again with none refused: status 10 where that was so
- *        starts memory N WORD..     memory is refused after N requests: the status of the program */
+ *        starts memory N WORD..     memory is refused after N requests, or never where N is -1: the status of the program */
 #define _POSIX_C_SOURCE 200809L
 #include "asl_runtime.h"
 #include "refusing.h"
@@ -18,7 +18,9 @@ int __wrap_pthread_create(pthread_t *id, const pthread_attr_t *attributes, void 
   return refused_start-- == 0 ? EAGAIN : __real_pthread_create(id, attributes, run, given);
 }
 
-static const aslr_lock on_global[] = {{ASL_LEAF, ASL_X, ASLR_GLOBAL, 0, {0}}, {ASLR_END, 0, 0, 0, {0}}};
+/* its second lock reads a cell, so that the engine `words` evaluates it again */
+static const aslr_lock on_global[] = {
+  {ASL_LEAF, ASL_X, ASLR_GLOBAL, 0, {0}}, {ASL_LEAF, ASL_S, ASLR_GLOBAL, 0, {1, ASLR_FOLLOW}}, {ASLR_END, 0, 0, 0, {0}}};
 static const aslr_lock *const lists[] = {on_global, NULL};
 static const uint16_t classes[1];
 
