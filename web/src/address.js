@@ -3,6 +3,7 @@
 import { bench, due, examples } from './desk.js';
 import { setText, byId } from './dom.js';
 import { forgetLeft, keepFragment, leaveBehind, timesLeft } from './kept.js';
+import { filesOpened } from './lessons.js';
 import { lookWords } from './look.js';
 import { orderIsOn } from './order.js';
 import { lessonWords } from './panels/lesson.js';
@@ -21,4 +22,4 @@ export async function writeAddress() {
   return fragment;
 }
 // Nothing can be waited for when the page is left or hidden.
-export const keepAtOnce = () => { if (bench.title) leaveBehind(bench.moment()); };
+export const keepAtOnce = () => { if (bench.title) leaveBehind(bench.moment(), filesOpened()); };

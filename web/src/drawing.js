@@ -6,9 +6,11 @@ import { bench, changed, comparison, due, examples, isOver, SOON } from './desk.
 import { differenceAt } from './difference.js';
 import { byId, el, lookAtDrawn, renew, setText } from './dom.js';
 import { drawExtras } from './extras.js';
+import { isForbidden } from './lessons.js';
 import { drawComparison, elsewhere } from './panels/comparison.js';
 import { drawText } from './panels/editor.js';
 import { drawEvents } from './panels/events.js';
+import { drawBreaks } from './panels/go.js';
 import { drawHeap } from './panels/heap.js';
 import { drawLesson } from './panels/lesson.js';
 import { drawLocks } from './panels/locks.js';
@@ -20,6 +22,7 @@ import { drawThreads } from './panels/threads.js';
 import { drawTimeline, measureLanes } from './panels/timeline.js';
 import { nextSentence, sentence } from './sentence.js';
 
+const FORBIDDEN = { robin: 'robin', until: 'until', random: 'random', k: 'k', 'threads-wanted': 'threads' }; // by a step of a lesson
 const PLACES = new Set(['rows', 'scroll', 'follow', 'point']); // of the editor alone
 
 export function draw() {
@@ -31,12 +34,13 @@ export function draw() {
   if (!what.size) return lookAtDrawn();
   if (what.size === 1 && what.has('comparison')) return drawCompared();
   if (what.has('text') || what.has('size') || what.has('rows')) { drawText(bench, openWhy); drawSettings(); drawNotes(bench); }
+  if (what.has('rows')) drawBreaks(); // (other lines are in these rows now)
   if ([...what].every(name => PLACES.has(name))) { drawPlaces(bench, what.has('follow')); return lookAtDrawn(); }
   document.body.classList.toggle('no-run', !bench.run);
   document.body.classList.toggle('refused', Boolean(bench.refusal));
   if (what.has('size') || what.has('text')) due.measure?.();
   measureLanes();
-  drawPlaces(bench);
+  drawPlaces(bench, what.size > 1 || !what.has('breaks')); // (a breakpoint is made where one looks, which stays)
   drawLesson(bench);
   document.body.classList.toggle('with-lesson', !byId('s-lesson').hidden);
   drawButtons();
@@ -86,7 +90,6 @@ function drawRun(what) {
 
 function drawSettings() {
   byId('k').value = bench.k;
-  byId('k').disabled = bench.kind !== 'asl';
   byId('threads-wanted').value = bench.threads;
   if (document.activeElement !== byId('example')) byId('example').value = '';
   byId('title').textContent = bench.title;
@@ -98,8 +101,9 @@ function drawButtons() {
   const { position, run } = bench, over = !run || isOver(), length = run ? run.length : 0;
   const off = { first: !position, back: !position, forward: position === length, last: position === length,
     undo: !bench.past.canGoBack, redo: !bench.past.canGoForward,
-    clear: !length, robin: over, random: over, until: over, play: !length };
+    clear: !length, robin: over, random: over, until: over, play: !length, k: bench.kind !== 'asl', 'threads-wanted': false };
   for (const [id, is] of Object.entries(off)) byId(id).disabled = is;
+  for (const [id, word] of Object.entries(FORBIDDEN)) if (isForbidden(word)) byId(id).disabled = true;
   setText(byId('position'), run ? `after ${position} of ${length} events` : 'no run');
   byId('position').dataset.brief = run ? `${position}/${length}` : '';
   Object.assign(byId('slide'), { max: length, value: position, disabled: !run });

@@ -1,7 +1,7 @@
 // What the panels for lists by hand, lessons, going further and prediction, and files that are made of the source, bring to the page:
 // their keys, buttons and drawing.
 
-import { isForbidden, keepRecords } from './lessons.js';
+import { isForbidden, isOfPage, keepRecords, LESSONS } from './lessons.js';
 import { drawClasses, listenToClasses, nextClass } from './panels/classes.js';
 import { drawOwn, enterOwn, toggleOwn } from './panels/own.js';
 import { askLine, breakHere, drawBreaks, drawGo, go, listenToGutter } from './panels/go.js';
@@ -18,11 +18,12 @@ import { packText, unpackText } from './pack.js';
 import { derive } from './derived.js';
 import { readers } from './opening.js';
 import { byId, el } from './dom.js';
-import { note, openDialog } from './page.js';
+import { linkHint, note, openDialog, tellForbidden } from './page.js';
+import { DAMAGED } from './share.js';
 
 // An action, unless the present step of a lesson is to be done without it.
 export const unlessForbidden = (word, act) => (...given) => (isForbidden(word)
-  ? note('This step of the lesson is to be done without it.') : act(...given));
+  ? tellForbidden(word) : act(...given));
 
 export const extraKeys = bench => ({
   g: () => go(bench, 'atomic'), G: () => go(bench, 'end'), Y: () => go(bench, 'event'), I: () => askLine(bench),
@@ -48,23 +49,21 @@ const reader = (bench, examples) => (name, text) => {
   return () => openText(bench, text, examples, name, isOfAnswer);
 };
 // How what was done is kept in a link, and read from it again: as an answer.
-const keeper = examples => ({
+const keeper = (bench, examples) => ({
   pack: (number, records) => packText(answerText(number, records, '')),
   unpack: async letters => readAnswer(await unpackText(letters), examples).answer?.records || [],
+  told: () => bench.changed('lesson'),
 });
-const GIVEN = /^#(lesson-text|answer)=([\w-]+)$/;
+const GIVEN = /^#(lesson-text|answer)=([^&]*)$/;
 // The same of an address.
 export async function openGivenLink(bench, fragment, examples) {
   const [, word, letters] = GIVEN.exec(fragment) || [];
   if (!word) return false;
-  const isOfAnswer = word === 'answer', text = await unpackText(letters).catch(() => null);
-  if (text !== null) {
-    const name = isOfAnswer ? 'The answer' : 'The lesson', wrong = await openText(bench, text, examples, name, isOfAnswer);
-    if (wrong.length) tellRefused([{ name, wrong }], 1);
-    return !wrong.length;
-  }
-  note('The link is damaged: it cannot be read.');
-  return false;
+  const isOfAnswer = word === 'answer', what = isOfAnswer ? 'answer' : 'lesson', text = await unpackText(letters).catch(() => '');
+  if (!text) throw new Error(`its ${what} is damaged${DAMAGED}`);
+  const name = 'The ' + what, wrong = await openText(bench, text, examples, 'by a link', isOfAnswer);
+  if (wrong.length) tellRefused([{ name, wrong }], 0);
+  return !wrong.length;
 }
 // What a link turns on besides: `predict`, or `predict=atomic`; `order`.
 export function openTurns(bench, fragment) {
@@ -77,12 +76,12 @@ export function openLessonsDialog(bench, examples) {
   openDialog('Lessons', lessonList(number => { byId('dialog').close(); openLesson(bench, number, examples); },
     async read => note((await copyText(await lessonLink(read))) ? 'The link is copied.' : 'Could not copy.')),
   el('p', { class: 'soft' }, 'A lesson of your own is a text file: drop it anywhere, or open it by “Open”. '
-    + 'So, too, answers that were handed in.'));
+    + 'So, too, answers that were handed in.'), LESSONS.some((_, number) => !isOfPage(number)) ? linkHint() : null);
 }
 
 export function listenToExtras(bench, examples) {
   readers.push(reader(bench, examples));
-  keepRecords(keeper(examples));
+  keepRecords(keeper(bench, examples));
   listenToGutter(bench);
   listenToPredict(bench);
   listenToClasses(bench);

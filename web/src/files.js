@@ -8,17 +8,26 @@ import { meaningOf } from './refusals.js';
 import { ownListsOf } from './own.js';
 
 const MOST_BYTES = 2 ** 28; // as the toolchain takes
-const decoder = new TextDecoder();
+const decoder = new TextDecoder(), strict = new TextDecoder('utf-8', { fatal: true });
 const letters = (bytes, at) => String.fromCharCode(...bytes.slice(at, at + 4));
 const same = (a, b) => a.length === b.length && a.every((byte, i) => byte === b[i]);
 const refusedBy = refusal => new Error(meaningOf(refusal).words);
 
+// The text of a file. Other letters than those of UTF-8 would be other words, which nobody wrote.
+export function textOf(bytes) {
+  try { return strict.decode(bytes); } catch {
+    const line = decoder.decode(bytes).split('\uFFFD')[0].split('\n').length;
+    throw new Error(`its text is not in UTF-8, from line ${line} on. Save it in UTF-8, and open it again.`);
+  }
+}
+
 // What a file is: an image or a run file, which want a source; or a whole that can be loaded. It throws in plain words.
 export async function readFile(name, bytes) {
   if (bytes.length > MOST_BYTES) throw new Error(`it has more than ${MOST_BYTES} bytes`);
+  if (!bytes.length) throw new Error('it is empty, so nothing was opened.');
   if (letters(bytes, 0) === 'ASLM') return { name, image: bytes };
   if (letters(bytes, 4) === 'ASLM') return ofRun(name, bytes);
-  const text = decoder.decode(bytes).replace(/\r\n?/g, '\n');
+  const text = textOf(bytes).replace(/\r\n?/g, '\n');
   if (isWorkFile(text)) return { name, whole: readWorkFile(text) };
   const kind = /\.asm$/.test(name) || /^\s*version\s+\d/.test(text) ? 'asm' : 'asl';
   return { name, whole: { text, kind, title: name } };

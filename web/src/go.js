@@ -30,17 +30,17 @@ async function stepUntil(bench, thread, isThere) {
   return 'far';
 }
 
-const goBy = (bench, name, isThere, more = {}) => bench.alone(async () => {
+const goBy = (bench, name, isThere, more = {}) => bench.alone(() => bench.several(async () => {
   const thread = goer(bench);
   if (!bench.run || bench.refusal) return '';
   if (thread < 0) return 'Nothing to step: all threads have ended.';
   const before = bench.position, why = await stepUntil(bench, thread, event => isThere(bench, thread, event));
   bench.changed('run');
   if (more.quiet?.includes(why)) return '';
-  const told = { blocked: `Thread ${thread} is blocked`, fault: `Thread ${thread} met a fault`, ended: `Thread ${thread} has ended`,
-    far: `Thread ${thread} did not come to ${name} in ${MOST} steps` }[why];
-  return told ? `${told}, after ${bench.position - before} ${bench.position - before === 1 ? 'step' : 'steps'}.` : '';
-});
+  const told = { blocked: `thread ${thread} is blocked`, fault: `thread ${thread} met a fault`, ended: `thread ${thread} has ended`,
+    far: `thread ${thread} has not come to ${name}` }[why];
+  return told ? `${bench.position - before} ${bench.position - before === 1 ? 'step' : 'steps'} further, ${told}.` : '';
+}));
 
 export const toAtomic = bench => goBy(bench, 'an atomic', isAtAcquire);
 // The end of the outermost section that it is in, or comes to.
@@ -66,7 +66,7 @@ export function toggleBreak(bench, line) {
 const placesOf = bench => new Set([...breaks].map(line => firstOf(bench, line)).filter(pc => pc >= 0));
 
 // The next stop of the recorded run; behind it the threads step in turn, until the one whose turn it is stands at a breakpoint.
-export const toBreak = bench => bench.alone(async () => {
+export const toBreak = bench => bench.alone(() => bench.several(async () => {
   if (!bench.run) return '';
   const places = placesOf(bench), { events } = bench.run, began = bench.position;
   if (!places.size) return 'There is no breakpoint: press p, or click a line number.';
@@ -76,7 +76,7 @@ export const toBreak = bench => bench.alone(async () => {
   const told = await inTurnTo(bench, places);
   bench.changed('run');
   return told;
-});
+}));
 async function inTurnTo(bench, places) {
   for (let made = 0, last = bench.last?.thread ?? -1; made < MOST; made++) {
     const running = bench.state.threads.flatMap((thread, t) => (thread.status === 'runs' ? [t] : []));

@@ -1,9 +1,12 @@
 // What a reload finds again: the address says all, or where that would be too long the browser's store of this tab. What is newer than the
 // address when the page is left is in that store, too: an address that is set then is not the one that a reload opens.
 
+import { ownOfJson } from './own.js';
+
 const LONGEST = 30_000; // letters of an address that browsers and mail let pass
 const MARK = '#kept=', STORE = 'asl-workbench-', LEFT = 'left';
-const kept = { own: '', name: '', where: '', entry: '', left: 0 }; // `entry` is a name of its own of this place in the tab's history
+// `entry` is a name of its own of this place in the tab's history; `before` is the address before the last one that was set
+const kept = { own: '', before: '', name: '', entry: '', left: 0 };
 
 const newName = () => Array.from(crypto.getRandomValues(new Uint8Array(6)), byte => byte.toString(36)).join('');
 
@@ -11,6 +14,7 @@ const newName = () => Array.from(crypto.getRandomValues(new Uint8Array(6)), byte
 function setAddress(fragment) {
   kept.own = fragment;
   if (location.hash === fragment) return true;
+  kept.before = location.hash;
   try { history.replaceState({ entry: kept.entry }, '', fragment); return true; } catch { return false; }
 }
 function store(name, fragment) {
@@ -25,20 +29,28 @@ export function keepFragment(fragment) {
   return 'not kept over a reload: too long for the address, and the browser has no store for it';
 }
 
-// What is there when the page is left, as plain data.
-export function leaveBehind(moment) {
+// What is there when the page is left, as plain data; and the lessons that were opened, if the store has room for them.
+export function leaveBehind(moment, lessons) {
   kept.left++;
-  return store(LEFT, JSON.stringify({ entry: kept.entry, moment }));
+  const { entry, before } = kept, addresses = [location.hash, before];
+  return [lessons, []].some(some => store(LEFT, JSON.stringify({ entry, addresses, moment, lessons: some })));
 }
 export const timesLeft = () => kept.left;
 export function forgetLeft() { try { sessionStorage.removeItem(STORE + LEFT); } catch { /* there is no store */ } }
+// Whether that was left here. Where the address is set while the page is loaded anew, which nobody can know, Chromium has the address from
+// before that and no state: then it is told by the address.
+function isHere({ entry, addresses = [] }) {
+  if (history.state || !entry) return Boolean(entry) && entry === history.state.entry;
+  return performance.getEntriesByType('navigation')[0]?.type === 'reload' && addresses.includes(location.hash);
+}
+const revived = (name, value) => (name === 'own' ? ownOfJson(value) : value);
 // What the page has left at this place of the history, to which a reload or a way back has come. (The address may have been written anew
 // between.) It is given once.
 export function takeLeft() {
   try {
-    const { entry, moment } = JSON.parse(sessionStorage.getItem(STORE + LEFT)) || {};
+    const left = JSON.parse(sessionStorage.getItem(STORE + LEFT), revived) || {}, { moment, lessons = [] } = left;
     forgetLeft();
-    return entry && entry === history.state?.entry ? moment : null;
+    return isHere(left) ? { moment, lessons } : null;
   } catch { return null; }
 }
 function nameEntry() {

@@ -11,8 +11,9 @@ async function wrongText({ text, kind, k, line, first }) {
   const { refusal } = await (kind === 'asl' ? compileText(text, k) : assemble(text));
   if (!refusal) return [];
   const told = await explainRefusal(refusal, text, kind, k), lineOf = row => (first ? first + Number(row) - 1 : Number(row));
-  const words = told.words.replace(/At line (\d+)/, (_, row) => 'At line ' + lineOf(row)), hint = told.hint?.replace('expected ;; ', '');
-  return [{ line: first && told.line ? lineOf(told.line) : line, words: `the program is refused: ${words}${hint ? '; ' + hint : ''}` }];
+  const words = told.words.replace(/At line (\d+)/, (_, row) => 'At line ' + lineOf(row));
+  const hint = told.hint ? '; ' + told.hint : '';
+  return [{ line: first && told.line ? lineOf(told.line) : line, words: `the program is refused: ${words}${hint}` }];
 }
 
 async function wrongLists({ text, k, own, listLines = [] }) {

@@ -172,6 +172,12 @@ const WORDS = {
   right: { place: 'step', take: (reader, said, line) => Object.assign(reader.step, { right: said, rightLine: line }) },
 };
 
+// The program of a step: the last one that was opened up to it.
+export function openingAt({ opening, steps }, number) {
+  for (let i = Math.min(number, steps.length - 1); i >= 0; i--) if (steps[i].opening) return steps[i].opening;
+  return opening;
+}
+
 export const isLesson = text => /^(?:\s*(?:#[^\n]*)?\n)*\s*lesson\b/.test(text);
 
 // A lesson, or the refusals of its lines and what could be read. `file` is its text, `bare` what others get of it.

@@ -10,10 +10,10 @@ import { isForeign, keptFragment } from './kept.js';
 import { listenToKeys } from './keys.js';
 import { loadFragment, openLink, openLinkOrFiles } from './links.js';
 import { keysAreOff, show } from './look.js';
-import { fragmentOf } from './opening.js';
+import { hasFragment } from './opening.js';
 import { changeTextSize, isDark, openKeys, setDark, toggleInstructions, toggleLecture } from './page.js';
 import { closeClass } from './panels/classes.js';
-import { breakLine, drawTyped, enterEditor, pasteLong } from './panels/editor.js';
+import { drawTyped, enterEditor, pasteLong, writeKey } from './panels/editor.js';
 import { closeLesson } from './panels/lesson.js';
 import { writeNote } from './panels/notes.js';
 import { editorMoved } from './panels/rows.js';
@@ -84,8 +84,7 @@ export function listenToPage() {
     event => { bench.type(event.target.value); drawTyped(bench); });
   byId('text').addEventListener('blur', () => bench.past.rest());
   byId('text').addEventListener('paste', pasteLong);
-  byId('text').addEventListener('keydown',
-    event => { if (event.key === 'Enter' && !event.ctrlKey && !event.metaKey && !event.isComposing) breakLine(event); });
+  byId('text').addEventListener('keydown', writeKey);
   addEventListener('resize', () => { clearTimeout(sized); sized = setTimeout(() => changed('size'), 80); });
   addEventListener('pagehide', keepAtOnce);
   document.addEventListener('visibilitychange', () => { if (document.visibilityState === 'hidden') keepAtOnce(); });
@@ -102,6 +101,6 @@ export function listenToPage() {
 // What is pasted where nothing is written is opened: files, or a link.
 function pasted(event) {
   if (event.target.closest?.('textarea,input,dialog')) return;
-  const { files } = event.clipboardData, fragment = fragmentOf(event.clipboardData.getData('text'));
-  if (files.length) loadFileList(files); else if (fragment) openLink(fragment);
+  const { files } = event.clipboardData, words = event.clipboardData.getData('text');
+  if (files.length) loadFileList(files); else if (hasFragment(words)) openLink(words);
 }

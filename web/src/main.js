@@ -13,6 +13,7 @@ import { takeLook } from './look.js';
 import { openFiles } from './opening.js';
 import { isLooking } from './order.js';
 import { cannotStart } from './packed.js';
+import { bringOpened } from './panels/lesson.js';
 import { editorMoved } from './panels/rows.js';
 import { watchRoom } from './room.js';
 import { wordsOfFragment } from './share.js';
@@ -36,8 +37,9 @@ async function start() {
   listenToExtras(bench, examples);
   due.measure = watchRoom(() => changed(editorMoved() ? 'rows' : 'follow'));
   const left = takeLeft();
+  if (left) await bringOpened(left.lessons);
   if (!(await loadFragment(keptFragment(), true))) await loadExample('counter.asl');
-  if (left) await bench.open(left);
+  if (left) await bench.open(left.moment);
   requestAnimationFrame(() => setTimeout(() => { window.workbench = { bench, tellView, toolStatistics, textSize,
     loadFile: (name, bytes) => openFiles(bench, examples, [{ name, bytes }]), openFiles: files => openFiles(bench, examples, files),
     openLink, hasCommand,

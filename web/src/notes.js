@@ -14,7 +14,7 @@ export function movedNotes(notes, before, after) {
   const moved = {}, by = now.length - old.length;
   for (const [key, words] of Object.entries(notes)) {
     const line = Number(key);
-    if (line < head || (line === head && head < now.length - tail)) moved[line] = words;
+    if (line < head) moved[line] = words;
     else if (line >= old.length - tail) moved[line + by] = words;
     else if (line < now.length - tail) moved[line] = words;
   }

@@ -2,10 +2,11 @@
 // examples. A run finds its source among those that were opened, the text that is open, and the examples.
 
 import { byId, count, el } from './dom.js';
-import { assemblyOf, readFile, sourceOf } from './files.js';
+import { assemblyOf, readFile, sourceOf, textOf } from './files.js';
 import { closeTrouble, tellTrouble } from './panels/trouble.js';
 import { note, openDialog } from './page.js';
 import { Dropped, unlessDropped } from './aside.js';
+import { chosen, openedHere, programsOf } from './lessons.js';
 import { lessonOf, tellRefused } from './panels/lesson.js';
 import { wordsOfFragment } from './share.js';
 
@@ -31,7 +32,9 @@ function remember(entry) {
 const known = (bench, examples) => [
   ...opened.map(({ whole }) => whole).reverse(),
   ...(bench.text ? [{ text: bench.builtText || bench.text, title: bench.title, kind: bench.kind }] : []),
-  ...Object.entries(examples).map(([title, { text, kind }]) => ({ text, title, kind }))].filter(({ kind }) => kind === 'asl');
+  ...openedHere().reverse().flatMap(programsOf), ...(chosen() ? programsOf(chosen()) : []),
+  ...Object.entries(examples).map(([title, { text, kind }]) => ({ text, title, kind }))]
+  .filter(({ text, kind }, i, all) => kind === 'asl' && all.findIndex(other => other.text === text) === i);
 
 // A run or an image with the source that makes it, or as assembly.
 async function withSource({ name, image, run = {} }, sources) {
@@ -47,7 +50,7 @@ async function readAll(files) {
   for (const { name, bytes } of files) {
     try {
       const text = new TextDecoder().decode(bytes), done = readers.map(reader => reader(name, text)).find(Boolean);
-      parts.push(done ? { name, done } : await readFile(name, bytes));
+      parts.push(done && textOf(bytes) ? { name, done } : await readFile(name, bytes));
     } catch (error) { refuse(name, error); }
   }
   return parts;
@@ -57,24 +60,25 @@ function refuse(name, error) {
   tellTrouble(name, error.message);
 }
 
-// Opens files, each { name, bytes }: the sources first. What is shown then is the last run, or else the last source.
+// Opens files, each { name, bytes }: sources, lessons and answers first. What is shown then is the last run, or else the last source.
 export async function openFiles(bench, examples, files) {
   const parts = await readAll(files), shown = [];
+  let others = parts.length; // that were opened
   for (const { name, whole } of parts) if (whole) shown.push(remember({ name, whole }));
+  const refused = [];
+  for (const { name, done } of parts) {
+    const wrong = done ? await done() : [];
+    if (wrong.length) { refused.push({ name, wrong }); others--; }
+  }
   const sources = known(bench, examples), wanting = opened.filter(({ image }) => image);
   for (const part of parts.filter(({ image }) => image)) {
-    try { shown.push(remember(await withSource(part, sources))); } catch (error) { refuse(part.name, error); }
+    try { shown.push(remember(await withSource(part, sources))); } catch (error) { refuse(part.name, error); others--; }
   }
   for (const orphan of shown.some(({ whole }) => whole.kind === 'asl') ? wanting : []) {
     const source = await sourceOf(orphan.image, sources);
     if (source) shown.push(remember({ name: orphan.name, whole: { ...source, ...orphan.run } }));
   }
-  const refused = [];
-  for (const { name, done } of parts) {
-    const wrong = done ? await done() : [];
-    if (wrong.length) refused.push({ name, wrong });
-  }
-  if (refused.length) tellRefused(refused, files.length);
+  if (refused.length) tellRefused(refused, others);
   const last = shown.findLast(({ whole }) => whole.schedule) || shown.at(-1);
   if (last) await show(bench, last, shown.length);
 }
@@ -94,17 +98,22 @@ export async function openFileList(bench, examples, list) {
   await unlessDropped(openFiles(bench, examples, files));
 }
 
-// The fragment of a link that was pasted, of this page or of another place; empty where there is none.
-export const fragmentOf = words => /#\S+/.exec(words.trim())?.[0] || '';
+// What may be the fragment of a link among words that were pasted, of this page or of another place: all behind its \x60#\x60, then what
+// stands before the first blank. Mails break a link into lines, and people put marks round it.
+export const hasFragment = words => /#\S/.test(words);
+export function fragmentsOf(words) {
+  const all = words.replace(/^[>\s]+/gm, ''), at = all.search(/#[a-z-]+=/), said = all.slice(at < 0 ? all.indexOf('#') : at);
+  return [said.replace(/>.*/s, '').replace(/\s/g, ''), /^\S*/.exec(said)[0]].map(link => link.replace(/[\s.,;:!?)>\]"'”’]+$/, ''));
+}
 
 export function openOpening(chooseFiles, openLink) {
   const field = el('input', { id: 'link', type: 'text', size: 48, autocomplete: 'off', spellcheck: 'false', 'aria-label': 'Link',
     placeholder: '…workbench.html#example=…', onkeydown: event => { if (event.key === 'Enter') take(); } });
   const take = () => {
-    const fragment = fragmentOf(byId('link').value);
+    const words = byId('link').value;
     byId('dialog').close();
     closeTrouble();
-    if (fragment) openLink(fragment);
+    if (hasFragment(words)) openLink(words);
     else tellTrouble('The link', 'it has no \x60#\x60, behind which a link says what to open. Copy the whole of it.');
   };
   openDialog('Open', el('p', {}, el('button', { id: 'choose-files', onclick: () => { byId('dialog').close(); chooseFiles(); } },

@@ -1,9 +1,15 @@
 // Lists of one's own for a source: the program that is inferred for it, with other locks in its lists. Its code stays what it is, and
-// whether the lists are enough is asked of the toolchain. `own` has the text of the list of each section that is not the inferred one.
+// whether the lists are enough is asked of the toolchain. `own` has the text of the list of each section that is not the inferred one; at
+// those that are, it is undefined, as it is behind its end.
 
 import { assemble, checkLists, compileText, diagnoseAssembly } from './toolchain.js';
 
-export const hasOwn = own => own.some(list => list !== undefined && list !== null);
+// Each list of one's own, with its section. (Lists as a text would be alike where there is none and where one is empty.)
+export const ownLists = own => own.flatMap((list, s) => (list === undefined ? [] : [[s, list]]));
+export const hasOwn = own => ownLists(own).length > 0;
+export const sameOwn = (own, other) => JSON.stringify(ownLists(own)) === JSON.stringify(ownLists(other));
+// From JSON, which has null where there is none.
+export const ownOfJson = lists => lists.map(list => (typeof list === 'string' ? list : undefined));
 
 // An assembly text as its code and the texts of its lists.
 export function partsOfText(text) {
@@ -22,7 +28,7 @@ export function withLists(text, own) {
 // The same lists, without those that say what the text says anyhow.
 export function onlyOther(text, lists) {
   const inferred = partsOfText(text).lists;
-  return lists.map((list, s) => (list === null || list === undefined || closed(list) === inferred[s] ? undefined : list));
+  return lists.map((list, s) => (list === undefined || closed(list) === inferred[s] ? undefined : list));
 }
 
 // What the toolchain makes of a source under lists of one's own: an image, or a refusal with the list and the line that it is of; and
@@ -58,8 +64,8 @@ export async function ownListsOf(source, assembly) {
 // A line that begins something else than a lock would end its list.
 const OTHER = /^[\s,]*(?!root\b|class\b|expr\b)[^\s,]/m;
 function noLock(own) {
-  const list = own.findIndex(text => OTHER.test(text ?? ''));
-  if (list < 0) return null;
+  const [list] = ownLists(own).find(([, text]) => OTHER.test(text)) || [];
+  if (list === undefined) return null;
   const row = own[list].split('\n').find(text => OTHER.test(text)).trim();
   const words = `List of section ${list}: \x60${row}\x60 is no lock. Locks are written \x60expr r1 write\x60, `
     + '\x60expr r1 * .1 read\x60, \x60expr g0 * write\x60, \x60class 0 read\x60 or \x60root write\x60.';

@@ -13,6 +13,8 @@ export function watchRoom(told) {
   const measured = { '--head': header, '--time': byId('s-time'), '--tree': byId('locks') };
   // (what all that is in the page inherits costs a look at all of it, so it is set only where it is needed)
   const measure = () => {
+    // (what comes into sight comes below the header, where that stays at the top)
+    document.documentElement.style.scrollPaddingTop = getComputedStyle(header).position === 'sticky' ? header.offsetHeight + 4 + 'px' : '';
     if (!document.body.matches('.lecture,.view')) return;
     document.body.classList.toggle('tall', innerHeight >= TALL * textSize());
     for (const [name, { offsetHeight }] of Object.entries(measured)) style.setProperty(name, offsetHeight + 'px');

@@ -66,12 +66,11 @@ const FAULTS = {
 };
 
 function fault(bench, event, k) {
-  const told = [el('span', { class: 'is-fault' }, '▲ fault ' + event.fault), ': '];
-  const lock = /^Unprotected (\S+) (\w+)/.exec(event.fault);
+  const lock = bench.names.missing(event.fault);
+  const told = [el('span', { class: 'is-fault', title: event.fault }, lock ? '▲ fault' : '▲ fault ' + event.fault), ': '];
   if (lock) {
     const held = [...bench.run.view(k).threads[event.thread].held].map(([node, mode]) => `${mode} at ${bench.names.node(node)}`);
-    told.push(`it ${lock[2] === 'read' ? 'reads' : 'writes'} ${bench.names.cell(lock[1])} and has no lock for that; `,
-      held.length ? `it held ${held.join(', ')}` : 'it held nothing');
+    told.push(strong(lock), `; the thread held ${held.join(', ') || 'nothing'}`);
   } else told.push(FAULTS[event.fault] || '', operands(bench, event, k));
   return [...told, '. The thread fails', lock ? ' and keeps nothing.' : '.'];
 }
@@ -103,7 +102,7 @@ function ran(bench, event) {
   for (const r of change.objects.length ? [] : change.registers)
     say(code(names.registerAt(thread.pc, r)), ' is now ', strong(names.value(thread.registers[r])));
   for (const cell of change.cells) say('cell ', code(names.cell(cell)), ' is now ', strong(valueOf(state, names, cell)));
-  if (thread.status === 'done') say('is done with ', strong(names.value(thread.value)));
+  if (thread.status === 'done') say('returns ', strong(names.value(thread.value)), ' and ends');
   if (!said.length) say('continues at ', names.where(thread.pc));
   return said;
 }

@@ -4,7 +4,7 @@ import { byId, el } from './dom.js';
 import { unlessDropped } from './aside.js';
 import { baseOf, canDerive, deriveButtons, DERIVED } from './derived.js';
 import { download, copyText } from './files.js';
-import { note, openDialog } from './page.js';
+import { linkHint, note, openDialog } from './page.js';
 import { pictureOf, titleOf } from './picture.js';
 import { boxPicture } from './boxpicture.js';
 import { commandLines } from './share.js';
@@ -27,7 +27,7 @@ export function openSharing(bench, fragment, lessonWords) {
   const base = baseOf(bench), link = location.href.replace(/#.*/s, '') + fragment;
   const { run } = bench, ran = run && run.length > 0;
   const whole = run && titleOf(bench) + ', after ' + bench.position;
-  openDialog('Share', copy('Link', link), ran ? copy(byCommand(bench, base), commandLines(bench)) : null,
+  openDialog('Share', copy('Link', link), linkHint(), ran ? copy(byCommand(bench, base), commandLines(bench)) : null,
     copy('For a page of slides', embedding(link)),
     el('p', { class: 'files' },
       file(base + '.workbench', () => workFile(bench.moment(), lessonWords)),

@@ -2,6 +2,7 @@
 // `text`, then the program as it is.
 
 import { notesText, readNotes, MOST_NOTES } from './notes.js';
+import { ownLists } from './own.js';
 import { MOST_STEPS } from './pack.js';
 
 const FIRST = 'workbench 1';
@@ -15,8 +16,7 @@ function stepWords(schedule) {
 }
 
 export function workFile({ text, kind, title, k, threads, schedule, position, notes, own }, lessonWords) {
-  const lists = own.flatMap((list, s) => (list == null ? []
-    : ['list ' + s, ...list.split('\n').filter(Boolean).map(lock => 'lock ' + lock)]));
+  const lists = ownLists(own).flatMap(([s, list]) => ['list ' + s, ...list.split('\n').filter(Boolean).map(lock => 'lock ' + lock)]);
   const rows = schedule.length ? ['steps ' + stepWords(schedule), 'at ' + position] : [];
   const said = notesText(notes), noted = said ? said.split('\n').map(note => 'note ' + note) : [];
   return [FIRST, 'title ' + title, 'kind ' + kind, 'k ' + k, 'threads ' + threads, ...lists, ...rows, ...noted,

@@ -1,10 +1,7 @@
 // Drives headless Chromium by its protocol, without packages.
-// node 20: --experimental-websocket; from node 22 no flag is needed.
-import { spawn } from 'node:child_process';
-import { mkdtempSync, rmSync, writeFileSync } from 'node:fs';
-import { tmpdir } from 'node:os';
-import { join } from 'node:path';
-import { comes, connect, end, MINUTE, sized, sleep } from './socket.mjs';
+import { writeFileSync } from 'node:fs';
+import { started } from './child.mjs';
+import { comes, connect, MINUTE, sized, sleep } from './socket.mjs';
 
 const OPTIONS = ['--headless=new', '--no-sandbox', '--disable-gpu', '--hide-scrollbars', '--remote-debugging-port=0'];
 
@@ -13,18 +10,9 @@ const NAMED = { Tab: [9], Enter: [13, '\r'], Escape: [27], ' ': [32, ' '], End: 
   ArrowRight: [39], ArrowDown: [40], Delete: [46] };
 const keyOf = key => {
   const [windowsVirtualKeyCode, text] = NAMED[key] || [key.toUpperCase().charCodeAt(0), key];
-  return { key, windowsVirtualKeyCode, text };
+  // (a sign's own number is that of another key: ( is the arrow down)
+  return { key, windowsVirtualKeyCode: NAMED[key] || /[a-z0-9]/i.test(key) ? windowsVirtualKeyCode : 0, text };
 };
-
-const portOf = child => new Promise((done, fail) => {
-  let said = '';
-  child.stderr.on('data', text => {
-    said += text;
-    const found = /127\.0\.0\.1:(\d+)\/devtools/.exec(said);
-    if (found) done(Number(found[1]));
-  });
-  child.on('exit', () => fail(new Error('Chromium ended: ' + said)));
-});
 
 async function pageOf(port) {
   let page;
@@ -36,11 +24,14 @@ async function pageOf(port) {
   return page.webSocketDebuggerUrl;
 }
 
-export async function openChromium(binary = process.env.CHROMIUM || 'chromium') {
-  const profile = mkdtempSync(join(tmpdir(), 'workbench-'));
-  const child = spawn(binary, [...OPTIONS, '--user-data-dir=' + profile, 'about:blank'], { stdio: ['ignore', 'ignore', 'pipe'] });
+export const openChromium = (binary = process.env.CHROMIUM || 'chromium') => started({
+  name: 'Chromium', binary, pattern: /127\.0\.0\.1:(\d+)\/devtools/,
+  words: folder => [...OPTIONS, '--user-data-dir=' + folder, 'about:blank'],
+}, driven);
+
+async function driven(port) {
   const errors = [], requests = [];
-  const { socket, send } = await connect(await pageOf(await portOf(child)), 'Chromium', told => {
+  const { socket, send } = await connect(await pageOf(port), 'Chromium', told => {
     const { method, params } = told;
     if (method === 'Runtime.exceptionThrown') errors.push(params.exceptionDetails.exception?.description || params.exceptionDetails.text);
     if (method === 'Log.entryAdded' && params.entry.level === 'error') errors.push(params.entry.text);
@@ -91,12 +82,6 @@ export async function openChromium(binary = process.env.CHROMIUM || 'chromium') 
       const { result } = await send('Page.printToPDF', { printBackground: true });
       writeFileSync(path, Buffer.from(result.data, 'base64'));
     },
-    async close() {
-      socket.close();
-      await end(child);
-      // (processes of its own may write there for a moment longer)
-      const remove = () => rmSync(profile, { recursive: true, force: true, maxRetries: 5, retryDelay: 200 });
-      try { remove(); } catch { await sleep(2000); remove(); }
-    },
+    drop: () => socket.close(),
   };
 }

@@ -6,7 +6,7 @@ import { EXAMPLES } from './paths.mjs';
 // What the panel shows, row by row; and what the native program says of each class, in the same way.
 const rows = () => run("[...document.querySelectorAll('#class-rows li')].map(e => e.textContent.replace(/ +/g, ' ').trim())");
 const native = (source, ...words) => asl(['explain', '--classes', ...words], source).toString().split(/^(?=class \d+: )/m)
-  .map(part => part.replaceAll(' (--all tells them)', '').split('\n').map(row => row.replace(/ +/g, ' ').trim()).filter(Boolean));
+  .map(part => part.replaceAll(' (--all tells them)', '').split('\n').map(row => row.replace(/ +/g, ' ').replaceAll('`', '').trim()).filter(Boolean));
 const same = (a, b) => JSON.stringify(a) === JSON.stringify(b);
 // The lines that are marked: their numbers, and their texts.
 const marked = () => run("['numbers', 'paint'].map(id => [...document.querySelectorAll('#' + id + ' .row.pointed')].map(e => e.textContent).join())");
@@ -66,6 +66,8 @@ await part('why one class: it begins where something is joined, and says of one 
   await open('#example=bank.asl&k=0&threads=2'); await key('X'); await settled();
   check(await textOf('#class-name') === 'class 0' && (await rows()).length > 5, 'where no lock is shown: ' + await rows());
   await open('#example=bank.asl&k=0&threads=2&steps=' + '0'.repeat(57) + '1'.repeat(52) + '01&at=111'); await key('X'); await settled();
+  const seen = `(e => { const a = e?.getBoundingClientRect(), b = document.getElementById('editor').getBoundingClientRect(); return Boolean(a && a.top >= b.top - 1 && a.bottom <= b.bottom + 1); })(document.querySelector('#numbers .pointed'))`;
+  check((await marked())[0] === '12' && await run(seen) && await run("document.querySelector('#class-rows code').textContent") === 'made = new 1', 'its line is marked, and in sight; its statement is code: ' + await marked());
   check(await textOf('#class-name') === 'class 1' && /All its objects are made at this line; there is nothing to join\./.test(await textOf('#class-rows')), 'the lock that is shown: ' + await textOf('#class-rows'));
   await key('X'); await settled();
   check(await textOf('#class-name') === 'class 0' && !/nothing to join/.test(await textOf('#class-rows')), 'then the other: ' + await textOf('#class-rows'));
@@ -79,7 +81,7 @@ await part('why one class: more members on request, another text, an assembly te
   await key('X'); await settled();
   check(same(await rows(), native(MANY)[0]) && /and 5 more$/.test((await rows())[0]), 'seven of twelve: ' + (await rows())[0]);
   await run("document.querySelector('[data-keep=class-all]').click()"); await settled();
-  check(same(await rows(), native(MANY, '--all')[0]) && /`g11`/.test((await rows())[0]), 'all: ' + (await rows())[0]);
+  check(same(await rows(), native(MANY, '--all')[0]) && /g11/.test((await rows())[0]), 'all: ' + (await rows())[0]);
   await run("document.querySelector('#class-rows .link-of').click()"); await settled();
   check((await marked())[0] === '14', 'a line is marked: ' + await marked());
   const other = MANY.replace('  a = &g11;\n', '');

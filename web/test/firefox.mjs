@@ -1,25 +1,11 @@
 // Drives Firefox without a window by WebDriver BiDi over a WebSocket, without a driver and without packages.
 // It offers what chromium.mjs offers, as far as BiDi has it.
-import { spawn } from 'node:child_process';
-import { mkdtempSync, rmSync, writeFileSync } from 'node:fs';
-import { tmpdir } from 'node:os';
-import { join } from 'node:path';
-import { comes, connect, end, sized, sleep } from './socket.mjs';
+import { writeFileSync } from 'node:fs';
+import { started } from './child.mjs';
+import { comes, connect, PATIENT, sized, sleep } from './socket.mjs';
 
 const KEYS = { Tab: '\uE004', Enter: '\uE006', '\n': '\uE006', Escape: '\uE00C', End: '\uE010', Home: '\uE011', ArrowLeft: '\uE012',
   ArrowUp: '\uE013', ArrowRight: '\uE014', ArrowDown: '\uE015', Delete: '\uE017' };
-
-async function addressOf(child) {
-  return new Promise((done, fail) => {
-    let said = '';
-    child.stderr.on('data', text => {
-      said += text;
-      const found = /WebDriver BiDi listening on (ws:\S+)/.exec(said);
-      if (found) done(found[1]);
-    });
-    child.on('exit', () => fail(new Error('Firefox ended: ' + said)));
-  });
-}
 
 // A value that the page gave, told by BiDi piece by piece.
 function plain(value) {
@@ -28,12 +14,14 @@ function plain(value) {
   return value.type === 'undefined' ? undefined : value.type === 'null' ? null : value.value;
 }
 
-export async function openFirefox(binary = process.env.FIREFOX || 'firefox-esr') {
-  const profile = mkdtempSync(join(tmpdir(), 'workbench-'));
-  const child = spawn(binary, ['--headless', '--no-remote', '--profile', profile, '--remote-debugging-port', '0'],
-    { stdio: ['ignore', 'ignore', 'pipe'], env: { ...process.env, HOME: profile } });
+export const openFirefox = (binary = process.env.FIREFOX || 'firefox-esr') => started({
+  name: 'Firefox', binary, pattern: /WebDriver BiDi listening on (ws:\S+)/, more: folder => ({ HOME: folder }),
+  words: folder => ['--headless', '--no-remote', '--profile', folder, '--remote-debugging-port', '0'],
+}, driven);
+
+async function driven(address) {
   const errors = [], requests = [];
-  const { socket, send } = await connect(await addressOf(child) + '/session', 'Firefox', told => {
+  const { socket, send } = await connect(address + '/session', 'Firefox', told => {
     if (told.method === 'log.entryAdded' && told.params.level === 'error') errors.push(told.params.text);
     if (told.method === 'network.beforeRequestSent') requests.push(told.params.request.url);
   });
@@ -50,9 +38,9 @@ export async function openFirefox(binary = process.env.FIREFOX || 'firefox-esr')
   const frames = () => run(`new Promise(done => { requestAnimationFrame(() => requestAnimationFrame(() => setTimeout(done))); setTimeout(done, 2000); })`);
   // Goes to a page, three times at most, each with more patience, until it answers the question whether it is there.
   const goTo = async (url, question) => {
-    for (const patience of [20_000, 40_000, 60_000]) {
-      await send('browsingContext.navigate', { context, url, wait: 'none' }, 5_000).catch(() => {});
-      if (await comes(() => run(question, 15_000).catch(() => false), patience)) return true;
+    for (const patience of [20_000, 40_000, 60_000].map(ms => ms * PATIENT)) {
+      await send('browsingContext.navigate', { context, url, wait: 'none' }, 5_000 * PATIENT).catch(() => {});
+      if (await comes(() => run(question, 15_000 * PATIENT).catch(() => false), patience)) return true;
     }
     return false;
   };
@@ -89,10 +77,6 @@ export async function openFirefox(binary = process.env.FIREFOX || 'firefox-esr')
       const { result } = await send('browsingContext.captureScreenshot', { context });
       writeFileSync(path, Buffer.from(result.data, 'base64'));
     },
-    async close() {
-      socket.close();
-      await end(child);
-      rmSync(profile, { recursive: true, force: true, maxRetries: 5, retryDelay: 200 });
-    },
+    drop: () => socket.close(),
   };
 }

@@ -93,3 +93,59 @@ await part('prediction: each step is asked for, judged by what came, and counted
   await key('P'); await key('1'); await settled();
   check((await at())[0] === 7 && await run("document.getElementById('s-predict').hidden"), 'P turns it off');
 });
+
+await part('prediction: who is in the way counts, one is not in one\'s own way, and what cannot be asked is not', async () => {
+  const counted = () => textOf('#predict-count'), asked = () => textOf('#predict-asked b'), choices = () => run("[...document.querySelectorAll('.answers button')].map(b => b.textContent.trim()).join()");
+  await open('#example=counter.asl&k=3&threads=3&steps=00&at=2&predict');
+  await key('1'); await key('r'); await settled(); await key('1'); await key('b');
+  check(await choices() === 'T0 0,T2 2', 'who may be in the way: ' + await choices());
+  await key('2'); await key('3'); await settled();
+  check(await counted() === '1 of 2 hit' && /blocked by T0/.test(await textOf('#predict-asked')), 'it was another one: ' + await textOf('#predict-asked'));
+  await key('1'); await key('b'); check(/in its way/.test(await asked()), await asked());
+  await run("document.querySelectorAll('.head')[2].click()"); await calm();
+  check(/What will it do/.test(await asked()) && await run("document.querySelector('#predict-asked .chip').textContent") === 'T2', 'another thread is asked for anew: ' + await textOf('#predict-asked'));
+  await key('Escape'); await key('P'); await key('P'); await settled();
+  check(await counted() === '', 'turned on again, it counts from the start: ' + await counted());
+  await open('#example=counter.asl&k=3&threads=1&steps=0&at=1&predict');
+  await key('0'); await key('b'); await settled();
+  check((await at())[0] === 2 && await counted() === '0 of 1 hit', 'where nobody else runs, nobody is asked for: ' + await textOf('#predict-asked'));
+  await key('P'); for (let i = 0; i < 9; i++) await key('0');
+  const [, length] = await at(); await key('P'); await key('0'); await settled();
+  check(!/What will it do/.test(await asked()) && String(await at()) === `${length + 1},${length + 1}` && await run('workbench.bench.last.reply') === 'ended', 'a thread that has ended is not asked for, and steps: ' + await at());
+  await open('#example=nested.asl&k=3&threads=2&predict=atomic'); await key('g'); await settled();
+  const outer = await at();
+  await key('0'); check(/What will it do/.test(await asked()), 'at an atomic: ' + await asked()); await key('r'); await settled();
+  for (let i = 0; i < 30 && (await depthOf(0)) < 2 && !/What/.test(await asked()); i++) { await key('0'); if (/What/.test(await asked()) && await depthOf(0) === 0) { await key('r'); await settled(); } }
+  check(outer[0] > 0 && await depthOf(0) === 2, 'an atomic inside a section asks for nothing: ' + await textOf('#predict-asked'));
+});
+
+await part('who goes further, how far, and what is said of it; breakpoints by the dialog, by p and in a program that is scrolled', async () => {
+  const schedule = () => run('workbench.bench.run.schedule.join("")'), breaks = () => run("[...document.querySelectorAll('#numbers .break')].map(row => row.textContent.trim()).join()");
+  await open('#example=counter.asl&k=3&threads=2&steps=01&at=1');
+  await key('G'); await settled();
+  check(/^0+$/.test(await schedule()) && await run('workbench.bench.last.after') === 0 && await depthOf(0) === 0 && /^\w+ /.test(await codeAt(0)) && (await at())[0] > 5, 'the thread that stepped last goes, from before its section to the end of it: ' + await schedule());
+  await open('#example=counter.asl&k=3&threads=2'); await key('G'); await settled();
+  check(await run('workbench.bench.last.depth > 0 && workbench.bench.last.after === 0'), 'from the start, too: ' + await schedule());
+  await open('#example=counter.asl&k=3&threads=2&steps=00&at=2'); await key('1'); await key('g'); await settled();
+  check(await textOf('#note') === '1 step further, thread 1 is blocked.', await textOf('#note'));
+  await open('#example=counter.asl&k=3&threads=2'); await key('I'); await browser.typed('5');
+  await run("[...document.querySelectorAll('#dialog-body button')].find(e => e.textContent === 'Breakpoint').click()"); await calm();
+  check(await breaks() === '5' && await run("document.getElementById('note').hidden"), 'a breakpoint at line 5: ' + await breaks());
+  await run("document.querySelectorAll('#numbers .row')[0].click()"); await calm();
+  check(await breaks() === '5', 'a line without an instruction has none: ' + await breaks());
+  await key('.'); await settled(); const first = await schedule(); await key('.'); await settled();
+  check(/^01/.test(first) && (await at())[0] > first.length && /is to step next, at the breakpoint/.test(await textOf('#note')), `the threads step in turn, and go on from a breakpoint: ${first}, ${await schedule()}`);
+  await key('p'); await calm(); const line = await lineOf(await run('workbench.bench.last.thread'));
+  check((await breaks()).split(',').includes(String(line)) !== (line === 5), `p at line ${line}: ${await breaks()}`);
+  const long = `global g;\nfn main(t) {\n${Array.from({ length: 1500 }, () => '  x = t + t;\n').join('')}  return t;\n}\n`;
+  await open(); await run(`workbench.bench.load({ text: ${JSON.stringify(long)}, kind: 'asl', title: 'long.asl', threads: 1 }).then(() => 1)`); await settled();
+  await run("document.getElementById('editor').scrollTop = 1e6, 1"); await calm();
+  await run("[...document.querySelectorAll('#numbers .row')].find(row => row.textContent.trim() === '1500').click()"); await calm();
+  check(await breaks() === '1500', 'a click on a number where it is scrolled: ' + await breaks());
+  for (const [to, wanted] of [[0, ''], [1e6, '1500']]) {
+    await run(`document.getElementById('editor').scrollTop = ${to}, 1`); await calm();
+    check(await breaks() === wanted, `scrolled to ${to} it is at its line: ` + await breaks());
+  }
+  await run("[...document.querySelectorAll('#numbers .row')].find(row => row.textContent.trim() === '1500').click()"); await calm();
+  check(await breaks() === '', 'and again: ' + await breaks());
+});

@@ -40,6 +40,33 @@ await part('undo brings back a text, a run, threads and a lesson, and redo what 
   check(await run(MADE) === moments.at(-1), 'redo brings back the last: ' + await run(MADE));
 });
 
+await part('undo goes back before each go of several steps, one at a time', async () => {
+  const there = () => run('[workbench.bench.position, workbench.bench.run.length, workbench.bench.threads].join()');
+  await open('#example=bank.asl&k=3&threads=2&steps=0011&at=4');
+  await run("document.getElementById('most').value = 20");
+  const seen = [await there()];
+  for (const name of ['g', 't', 'R', 'r', '0', 'r']) { await key(name); await settled(); seen.push(await there()); }
+  check(new Set(seen).size === 7, 'each goes further: ' + seen.join(' '));
+  for (const i of [5, 3, 2, 1, 0]) {
+    await key('u'); await settled();
+    check(await there() === seen[i], `undo: ${await there()}, not ${seen[i]}`);
+  }
+  check(await run("document.getElementById('undo').disabled"), 'there is nothing more to undo');
+  for (let i = 0; i < 5; i++) { await key('U'); await settled(); }
+  check(await there() === seen.at(-1), `redo brings all again: ${await there()}, not ${seen.at(-1)}`);
+});
+
+await part('a program that is typed without blanks stands as one writes it: a line after { goes deeper, and } back', async () => {
+  const rows = ['global g;', '', 'fn main(t) {', 'p = &g;', 'if t {', 'atomic {', '*p = t;', '}', '} else {', 'x = t;', '}', '', 'return t;', '}', ''];
+  const as = ['global g;', '', 'fn main(t) {', '  p = &g;', '  if t {', '    atomic {', '      *p = t;', '    }', '  } else {', '    x = t;', '  }', '  ', '  return t;', '}', ''];
+  await key('N'); await settled(); await key('e');
+  await run("document.getElementById('text').setSelectionRange(0, 1e6)");
+  await browser.typed(rows.join('\n')); await key('Escape'); await settled();
+  check(await run('workbench.bench.text') === as.join('\n'), JSON.stringify(await run('workbench.bench.text')));
+  await until('workbench.bench.run && !workbench.bench.refusal', 'it is compiled');
+  await key('u'); check(await run('workbench.bench.text') === 'fn main(t) {\n  return t;\n}\n', 'it is one undo');
+});
+
 await part('fewer threads drop no step for good, and a text that is typed is one undo', async () => {
   await open('#example=counter.asl&k=3&threads=3&steps=001122&at=6');
   await key('T'); check(String(await at()) === '4,4', 'fewer threads');
@@ -106,6 +133,12 @@ await part('a reload right after a step, a text or a choice loses nothing', asyn
   await type(COUNTER.replace('x + one', 'one + x'));
   await reloadAtOnce();
   check(/one \+ x/.test(await run('workbench.bench.text')), 'a text: ' + await run('workbench.bench.text'));
+  // A page that is loaded anew goes on for a while, and may write its address then. Chromium has the address from before that, and no state.
+  const address = await run('location.hash');
+  await type(COUNTER.replace('x + one', 'x + x'));
+  await run(`history.replaceState(null, '', ${JSON.stringify(address)})`);
+  await reloadAtOnce();
+  check(/x \+ x/.test(await run('workbench.bench.text')), 'a text whose address is written meanwhile: ' + await run('workbench.bench.text'));
   await addressed();
   await open('#example=bank.asl&k=0&threads=2');
   check(String(await at()) === '0,0', 'but a link is opened as it says: ' + await at());
@@ -185,4 +218,31 @@ await part('share in a lesson gives what is seen, and 100,000 steps make a short
   await open('#' + long.split('#')[1]);
   check(String(await at()) === '90000,100000' && await run(`workbench.bench.run.schedule.join() === (${steps}).join()`), 'opens with all of them: ' + await at());
   console.log('       a link of', long.length, 'letters for 100,000 steps');
+});
+
+await part('undo: a new row of typing after a step and after undo, no redo after another action, 200 moments, a lesson', async () => {
+  const text = () => run('workbench.bench.text'), typed = async word => { await key('e'); await run("document.getElementById('text').setSelectionRange(0, 0)"); await browser.typed(word); await key('Escape'); await settled(); };
+  await open('#example=counter.asl&k=3&threads=2');
+  await typed(' '); await key('0'); await typed('  ');
+  check(await text() === '   ' + COUNTER, 'typed before and after a step: ' + JSON.stringify((await text()).slice(0, 12)));
+  await key('u'); await settled(); check(await text() === ' ' + COUNTER, 'undo of the second row: ' + JSON.stringify((await text()).slice(0, 12)));
+  await key('u'); await settled(); check(await text() === COUNTER, 'and of the first: ' + JSON.stringify((await text()).slice(0, 12)));
+  await typed(' '); await key('u'); await settled(); await typed('  '); await key('u'); await settled();
+  check(await text() === COUNTER && await run("document.getElementById('undo').disabled"), 'a row after an undo: ' + JSON.stringify((await text()).slice(0, 12)));
+  await key('k'); check(await run("document.getElementById('redo').disabled"), 'after another action there is no redo');
+  await open('#example=counter.asl&k=3&threads=2');
+  for (const name of ['v', ' ', 'Escape', '0', 'v', ' ', 'Escape']) { await key(name); await settled(); }
+  const list = () => run('workbench.bench.own[0].length'), typedTwice = await list();
+  await key('u'); await settled(); check(await list() === typedTwice - 1, 'in a list, too, a step ends a row: ' + await list());
+  await open('#example=counter.asl&k=3&threads=2');
+  for (const name of ['v', ' ', 'Escape', 'u', 'v', ' ', 'Escape', 'u']) { await key(name); await settled(); }
+  check(await run('workbench.bench.own.length === 0'), 'and an undo: ' + await run('JSON.stringify(workbench.bench.own)'));
+  await open('#example=counter.asl&k=3&threads=3&steps=2201&at=3');
+  await key('T'); await settled(); check(String(await at()) === '1,2', 'fewer threads: the position is behind the same step: ' + await at());
+  await run('(async () => { for (let i = 0; i < 205; i++) workbench.bench.setNotes({ 0: `n${i}` }); })()'); await calm();
+  check(await run('workbench.bench.past.before.length') === 200 && await run('workbench.bench.past.before.at(-1).notes[0]') === 'n203' && await run('workbench.bench.past.before[0].notes[0]') === 'n4', 'the last 200 moments are kept: ' + await run('workbench.bench.past.before.at(-1).notes[0]'));
+  await open('#lesson=1'); await key('n'); await settled();
+  const done = () => run("document.querySelectorAll('#s-lesson li.done').length"), before = await done();
+  await key('u'); await settled();
+  check(before > 0 && await done() === 0 && String(await at()) === '0,0', `a go that did ${before} steps is undone with them: ${await done()}`);
 });

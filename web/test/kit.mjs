@@ -1,6 +1,5 @@
 // What the tests of the page share: the browser, the native program, checks that are counted, and how the page is opened.
 //   --firefox   tries the page in Firefox; WORDs are of the names of the parts to do
-//   --group=N   the parts of one group alone: Firefox gives no more answers after so many parts, so it is begun anew for each group
 //
 // A browser without a window, on a machine whose processors others take, may be given neither a frame nor a timer for seconds. So no test
 // waits for a time that is thought to be long enough: what the page is to come to is waited for itself, a minute at most (`until`). And a
@@ -56,9 +55,6 @@ export async function until(is, words = is) {
   return came;
 }
 
-const wanted = options.map(word => /^--group=(\d)$/.exec(word)).find(Boolean)?.[1];
-let group = 1;
-export function beginGroup() { group++; }
 // Other parts begin with a window of this size.
 export async function takeRoom() {
   await browser.size(1400, 1000);
@@ -71,7 +67,11 @@ async function beginAnew() {
     try {
       browser = await openBrowser();
       return await takeRoom();
-    } catch (error) { if (times === 3) throw error; }
+    } catch (error) {
+      console.log('       ', String(error));
+      await browser.close();
+      if (times === 3) throw error;
+    }
   }
 }
 async function tried(work, name, word = '') {
@@ -89,7 +89,6 @@ function count({ passed, failed }) {
   all.failed += failed;
 }
 export async function part(name, work) {
-  if (wanted && group !== Number(wanted)) return;
   if (only.length && !only.some(word => name.includes(word))) return;
   const outcome = await tried(work, name);
   if (outcome.failed) again.push([work, name]); else count(outcome);

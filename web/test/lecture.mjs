@@ -68,7 +68,14 @@ await part('the lists in a lecture: that of the section where the thread is bloc
     await inSight(['.matrix.here thead', '.matrix.here tr.mine'], `after ${name}`);
     check(await run("document.querySelector('.matrix.here')?.dataset.list") === '1', `after ${name}: the section is that of list 1`);
   }
-  check(/Of the same 111 steps 0 are blocked at k 1, and 1 at k 0/.test(await textOf('#note')), await textOf('#note'));
+  check(/Of the same 111 steps 0 are blocked at k\s1, and 1 at k\s0/.test(await textOf('#note')), await textOf('#note'));
+  const beyond = `(b => [...document.querySelectorAll('.matrix.here .link')].filter(e => e.getBoundingClientRect().right > b.right + 3).length)(document.querySelector('.matrix.here').getBoundingClientRect())`;
+  for (const [width, height] of SIZES) {
+    await browser.size(width, height); await settled();
+    check(await run(beyond) === 0, `${width} by ${height}: a button of the lists stands beyond its frame`);
+    check(await run("(e => e.scrollWidth <= e.clientWidth)(document.getElementById('s-sections'))"), `${width} by ${height}: the lists are wider than their panel`);
+  }
+  await browser.size(1280, 720);
   await open('#lesson=6&lecture');
   await key('v'); await browser.typed('expr r1 re'); await settled();
   await inSight(['#own-verdict', '#own-verdict b'], 'what is wrong with a list is in sight');
@@ -127,6 +134,84 @@ await part('with letters of 25 pixels: the threads stay in sight above the lock 
     return document.getElementById('note').hidden ? 'no message' : a.right > b.left && a.bottom > b.top ? 'covered' : ''; })()`);
   check(covered === '', 'the message and the lists: ' + covered);
   await browser.size(1400, 1000);
+});
+
+// Of elements, the words of those that are not wholly within a box, or have more in them than they show.
+const cut = (selector, box) => run(`(box => [...document.querySelectorAll('${selector}')].filter(e => { const r = e.getBoundingClientRect(), b = box.getBoundingClientRect();
+  return r.right > b.right + 1 || r.left < b.left - 1 || e.scrollWidth > e.clientWidth + 1; }).map(e => e.textContent).join(' / '))(document.querySelector('${box}'))`);
+const load = (text, threads, schedule, more = '') => run(`workbench.bench.load({ text: ${JSON.stringify(text)}, kind: 'asl', title: 'own.asl', k: 3, threads: ${threads}, schedule: ${JSON.stringify(schedule)}, position: 1e6, lesson: null${more} }).then(() => 1)`);
+
+await part('in a lecture no number is cut at the edge of the timeline, and no list of locks beside the program', async () => {
+  const [, link] = /workbench\.html(#example=bank\.asl[^)]*)/.exec(readFileSync(new URL('../../docs/TEACHING.md', import.meta.url), 'utf8'));
+  for (const [width, height] of SIZES) {
+    await browser.size(width, height);
+    await open(link); await settled();
+    for (const k of [0, 1]) {
+      const lists = await run("[...document.querySelectorAll('#instructions .takes')].map(e => e.textContent.trim().replace(/ +/g, ' ')).join(' / ')");
+      check((k ? /writes \*\*from, \*\*to; reads \*from, \*to/ : /writes class 1; reads \*from, \*to/).test(lists), `k ${k}: ${lists}`);
+      check(await cut('#instructions .takes', '#editor') === '', `${width} by ${height}, k ${k}: ${await cut('#instructions .takes', '#editor')} is cut`);
+      await inSight(['#instructions .row.last .takes'], `${width} by ${height}, k ${k}: the list of the line that is shown`);
+      await key('k'); await settled();
+    }
+    for (const n of [2, 9, 17, 30]) {
+      await load(`fn main(t) {\n${'  x = t;\n'.repeat(n)}  y = 1000;\n  z = x - y;\n  out z;\n  return t;\n}\n`, 1, Array(n + 3).fill(0)); await settled();
+      check(await textOf('.printed') === '-1000', 'what is printed: ' + await textOf('.printed'));
+      check(await cut('.printed', 'svg.lanes') === '', `${width} by ${height}, the last of ${n + 3} events: its number is cut`);
+    }
+  }
+  await browser.size(1400, 1000);
+});
+
+await part('a message in a lecture: not over the lines of the threads, and above a dialog', async () => {
+  await browser.size(1280, 720);
+  const covered = () => run(`(note => note.hidden || [...document.querySelectorAll('#gutter .chip,#gutter .last')].some(e => { const a = e.getBoundingClientRect(), b = note.getBoundingClientRect(); return a.bottom > b.top && a.top < b.bottom; }))(document.getElementById('note'))`);
+  await open('#lecture');
+  await load(`fn main(t) {\n${'  x = t;\n'.repeat(10)}  return t;\n}\n`, 2, [1, 1, 1, 1, ...Array(10).fill(0)]); await settled();
+  await key('o');
+  await until(async () => !await covered(), 'the message covers the line of the thread');
+  check(/^There is none after this/.test(await textOf('#note')) && await run("document.getElementById('note').getBoundingClientRect().right <= document.getElementById('s-code').getBoundingClientRect().right"), 'it stands over the program: ' + await textOf('#note'));
+  await key('s'); await settled();
+  await run("(e => { e.scrollIntoView({ block: 'nearest' }); e.click(); })(document.querySelector('#dialog .share button'))");
+  await until("/cop/i.test(document.getElementById('note').textContent)", 'the button answers');
+  check(await run("(e => { const r = e.getBoundingClientRect(); return e.contains(document.elementFromPoint((r.left + r.right) / 2, (r.top + r.bottom) / 2)); })(document.getElementById('note'))"), 'the answer is above the dialog');
+  await key('Escape'); await key('G'); await settled();
+  check(await textOf('#note') === '1 step further, thread 0 has ended.', await textOf('#note'));
+  check(/returns 0 and ends\./.test(await textOf('#say')), await textOf('#say'));
+  await browser.size(1400, 1000);
+});
+
+await part('a lesson in a lecture stands at its title or at its step, none of them cut', async () => {
+  await browser.size(1280, 720);
+  const steps = words => words.map(word => `step ${word}\nhint by key 0\nuntil all threads have ended`).join('\n');
+  const text = words => `lesson The last seat\nabout Two clerks sell the last seat of a train.\nprogram seat.asl\n  fn main(t) { return t; }\nend program\n${steps(words)}\nanswer Done.\n`;
+  const long = 'Sell the last seat twice: let both clerks print 1. '.repeat(3);
+  for (const words of [['Sell the last seat twice: let both clerks print 1.', 'Now the look and the sale are one section. Let one clerk wait for the other.', 'How many seats can be sold now?'], [long], [long + long.slice(0, 99)]]) {
+    await open();
+    await run(`workbench.loadFile('a.lesson', new TextEncoder().encode(${JSON.stringify(text(words))}))`); await settled();
+    await key('L'); await settled();
+    const wrong = await run(`(box => { const b = box.getBoundingClientRect(), h = box.querySelector('h2').getBoundingClientRect(), s = box.querySelector('li.present').getBoundingClientRect();
+      return [h.top < b.top - 1 && h.bottom > b.top + 2 ? 'the title is cut' : '', s.top < b.top - 1 || s.bottom > b.bottom + 1 && s.top > b.top + 12 ? 'the step is cut' : ''].filter(Boolean).join(); })(document.getElementById('s-lesson'))`);
+    check(wrong === '', `${words[0].length} letters: ${wrong}`);
+  }
+  await browser.size(1400, 1000);
+});
+
+await part('the program is scrolled to a whole line, where that leaves the threads in sight', async () => {
+  await browser.size(1280, 720);
+  for (const line of [30, 37, 44, 52]) {
+    await load(`fn main(t) {\n${'  x = t;\n'.repeat(99)}  return t;\n}\n`, 2, Array(line).fill(0), ', k: 3');
+    await settled(); await key('c'); await settled(); await key('u'); await settled();
+    const [top, row] = await run("(e => [e.scrollTop - parseFloat(getComputedStyle(document.getElementById('sheet')).paddingTop), document.querySelector('#numbers .row').offsetHeight])(document.getElementById('editor'))");
+    check(top > 0 && Math.abs(top / row - Math.round(top / row)) < 0.06, `after ${line} steps the first line is cut: ${top} of ${row}`);
+  }
+  await browser.size(1400, 1000);
+});
+
+await part('the lock tree names an object by the global that points to it', async () => {
+  const [, link] = /workbench\.html(#example=bank\.asl[^)]*)/.exec(readFileSync(new URL('../../docs/TEACHING.md', import.meta.url), 'utf8'));
+  await open(link); await key('k'); await settled();
+  const leaves = await run("[...document.querySelectorAll('#locks .leaf')].map(e => e.textContent.replace('└ ', '')).join(', ')");
+  for (const [name, o] of [['ann', 4], ['bob', 5], ['cid', 6], ['dan', 7]]) check(leaves.includes(`*${name} obj ${o}[0] leaf ${o}.0`), `${name}: ${leaves}`);
 });
 
 await part('a lesson in a lecture: its step, the lock tree and the lists on one screen', async () => {

@@ -101,6 +101,14 @@ await part('each control is reached by Tab', async () => {
     await browser.key('Tab');
     seen.add(await run("Number(document.activeElement.dataset.tried ?? -1)"));
   }
+  // (a window that is high enough for the header to stay at its top)
+  await run("document.querySelector('#example').focus(); scrollTo(0, 9999); [...document.querySelectorAll('main button')].findLast(e => !e.disabled && e.checkVisibility()).focus()");
+  const under = [];
+  for (let i = 0; i < 30; i++) {
+    await browser.key('Tab', true);
+    under.push(await run("(e => e.closest('main') && e.getBoundingClientRect().height < 300 && e.getBoundingClientRect().top < document.querySelector('header').getBoundingClientRect().bottom - 1 ? e.outerHTML.slice(0, 60) : '')(document.activeElement)"));
+  }
+  check(under.every(words => !words), 'the header covers ' + under.filter(Boolean).join());
   const missed = wanted.filter(i => !seen.has(i));
   check(missed.length === 0, 'not reached: ' + await run(`${JSON.stringify(missed)}.map(i => document.querySelector('[data-tried="' + i + '"]').outerHTML.slice(0, 80)).join()`));
 });

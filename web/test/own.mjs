@@ -1,7 +1,8 @@
 // Lists by hand: the panel's lists are those of the program, the verdict is that of the native `check`, and the run goes on under them.
 import { readFileSync } from 'node:fs';
-import { asl, at, browser, calm, check, key, open, part, run, settled, textOf } from './kit.mjs';
-import { EXAMPLES } from './paths.mjs';
+import { asl, at, browser, calm, check, key, open, part, run, settled, textOf, until } from './kit.mjs';
+import { EXAMPLES, READY } from './paths.mjs';
+import { savedBy } from './runs.mjs';
 
 const listsOf = text => text.split(/^list\n/m).slice(1);
 const withLists = (text, lists) => text.split(/^list\n/m)[0] + lists.map(list => 'list\n' + list).join('');
@@ -67,7 +68,7 @@ await part('a run goes on under lists by hand, to the fault of the native progra
   for (const name of ['r', 'Home', 'f']) await key(name);
   const schedule = await run('workbench.bench.run.schedule'), lines = asl(['step', '--threads', 2, ...schedule], under).toString().trim().split('\n');
   const [now] = await at(), fault = lines.findIndex(line => / fault /.test(line));
-  check(fault >= 0 && now === fault + 1 && /it writes count and has no lock for that/.test(await textOf('#say')), `event ${now - 1}, native ${fault}: ${await textOf('#say')}`);
+  check(fault >= 0 && now === fault + 1 && /▲ fault: count is written without a lock; the thread held/.test(await textOf('#say')), `event ${now - 1}, native ${fault}: ${await textOf('#say')}`);
   check(Buffer.from(await run('btoa(String.fromCharCode(...workbench.bench.image))'), 'base64').equals(asl(['asm'], under)), 'the image has these lists');
   check(await run("document.getElementById('comparison').hidden"), 'other k are not compared with them');
   await key('u'); await key('u'); await settled();
@@ -87,7 +88,7 @@ await part('a run goes on under lists by hand, to the fault of the native progra
   check(await run('workbench.bench.ownBuilt') && await run('workbench.bench.own[0]') === 'expr r1 read', 'a link keeps them: ' + link);
   await open('#example=bank.asl');
   await run(`workbench.loadFile('own.run', new Uint8Array(${JSON.stringify(file)}))`); await settled();
-  check(await run("workbench.bench.kind === 'asl' && workbench.bench.title === 'counter.asl' && workbench.bench.own[0] === 'expr r1 read\\n'"), 'a run file has them: ' + await run('workbench.bench.title + JSON.stringify(workbench.bench.own)'));
+  check(await run("workbench.bench.kind === 'asl' && workbench.bench.title === 'counter.asl' && workbench.bench.own[0] === 'expr r1 read\\n' && workbench.bench.k === 0"), 'a run file has them: ' + await run('workbench.bench.title + JSON.stringify(workbench.bench.own)'));
 });
 
 await part('the command lines of Share, under lists by hand, make the run that is shown', async () => {
@@ -105,4 +106,56 @@ await part('the command lines of Share, under lists by hand, make the run that i
   await open('#example=counter.asl&k=1&threads=2&steps=0011&at=4'); await key('s'); await settled();
   check((await lines())[0] === 'asl compile --k 1 < counter.asl > counter.img', 'under the inferred lists the source is compiled: ' + (await lines())[0]);
   await run("document.getElementById('dialog').close()");
+});
+
+await part('an empty list is another one than none: undo and redo, a reload, a link and a file keep them apart', async () => {
+  const there = () => run("JSON.stringify([workbench.bench.own.map(list => list ?? null), workbench.bench.asm.split(/^list\\n/m).slice(1).map(list => list.length > 0), workbench.bench.position])");
+  const inferred = '[[],[true,true,true],2]', emptied = '[[null,""],[true,false,true],2]', count = readFileSync(EXAMPLES + 'bank.asl', 'utf8').match(/atomic/g).length;
+  check(count === 3, 'sections: ' + count);
+  await open('#example=bank.asl&k=0&threads=2&steps=0011&at=2');
+  await key('v'); await settled();
+  for (const [section, wanted] of [[0, '[[""],[false,true,true],2]'], [1, emptied]]) {
+    await writeList(section, '');
+    check(await there() === wanted, `list ${section} is emptied: ` + await there());
+    await key('u'); await settled();
+    check(await there() === inferred, 'undo: ' + await there());
+    await key('U'); await settled();
+    check(await there() === wanted, 'redo: ' + await there());
+    if (section === 0) { await key('u'); await settled(); }
+  }
+  await run('window.isOld = true, setTimeout(() => location.reload()), 1');
+  await until(`!window.isOld && ${READY}`, 'the page is loaded anew'); await calm();
+  check(await there() === emptied, 'a reload at once: ' + await there());
+  const inWords = () => run("[...document.querySelectorAll('#own-lists .own-list > div:first-child')].map(e => /as inferred/.test(e.textContent) && !e.querySelector('button'))");
+  check(String(await inWords()) === 'true,false,true', 'the other lists are as inferred: ' + await inWords());
+  await key('v'); check(await run('document.activeElement.dataset.list') === '1', 'v goes into it: ' + await run('document.activeElement.dataset.list')); await key('Escape');
+  await key('s'); const file = await savedBy('Save bank.workbench'), link = await textOf('#dialog .share pre');
+  check(/\nlist 1\nsteps 0\*2 1\*2\nat 2\n/.test(file), 'the file: ' + file.slice(0, 120));
+  await open('#' + link.split('#')[1]); check(await there() === emptied, 'a link: ' + await there());
+  await open(); await run(`workbench.loadFile('bank.workbench', new TextEncoder().encode(${JSON.stringify(file)}))`); await settled();
+  check(await there() === emptied, 'a file: ' + await there());
+});
+
+await part('of several lists one is by hand: what is said of each, one undo for a row of letters, and the panel that closes', async () => {
+  const code = () => textOf('#own-all pre, #own-all code'), bank = readFileSync(EXAMPLES + 'bank.asl', 'utf8'), inferred = listsOf(asl(['compile', '--text', '--k', 0], bank).toString());
+  const words = s => run(`[...document.querySelectorAll('#own-lists .own-list')[${s}].querySelectorAll('li')].map(e => e.textContent).filter(Boolean).join()`);
+  await open('#example=bank.asl&k=1&threads=2'); await key('v'); await settled();
+  check(/\bfrom\b/.test(await words(1)) && !/\bfrom\b/.test(await words(0)), `locks in the names of their function: ${await words(0)} / ${await words(1)}`);
+  await open('#example=bank.asl&k=0&threads=2'); await key('v'); await settled();
+  await writeList(0, ''); await until("document.querySelector('[data-keep=which]')"); await run("document.querySelector('[data-keep=which]').click()"); await calm();
+  check(/Section 0 needs/.test(await verdict()), await verdict());
+  await writeList(2, ''); await until("document.querySelector('[data-keep=which]')"); check(!/needs/.test(await verdict()) && /which lock/.test(await verdict()), 'of other lists it is told on request again: ' + await verdict());
+  await writeList(2, 'root write\n'); await run("document.querySelector('[data-list=\"0\"]').focus()");
+  await browser.typed('root write'); await settled();
+  const lists = ['root write\n', inferred[1], 'root write\n'], under = withLists(asl(['compile', '--text', '--k', 0], bank).toString(), lists);
+  check(await run('workbench.bench.asm') === asl(['dis'], asl(['asm'], under)).toString() && (await code()).includes('list\nroot write') && (await code()).split('list\n').length === 4, 'the whole assembly text has them: ' + (await code()).slice(-80));
+  await run("document.querySelector('[data-keep=inferred-2]').click()"); await settled();
+  check(await run('JSON.stringify(workbench.bench.own)') === '["root write",null,null]', 'one list is as inferred: ' + await run('JSON.stringify(workbench.bench.own)'));
+  const own = () => run('JSON.stringify(workbench.bench.own)'), seen = [];
+  await key('Escape'); for (const name of ['u', 'u', 'U']) { await key(name); await settled(); seen.push(await own()); }
+  check(String(seen) === '["root write",null,"root write\\n"],[],["root write",null,"root write\\n"]', 'what is typed in a row is one undo: ' + seen.join(' / '));
+  await run("document.getElementById('own-open').click()"); await calm();
+  check(await run("document.getElementById('s-own').hidden && workbench.bench.ownBuilt"), 'the panel closes, and the lists stay');
+  await run("document.getElementById('own-open').click()"); await calm();
+  check(await run("!document.getElementById('s-own').hidden"), 'and opens');
 });

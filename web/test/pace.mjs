@@ -1,5 +1,5 @@
 // How long a new step and a move take, from the key to the painted frame, with runs of 100, 1,000 and 10,000 events:
-//   node --experimental-websocket web/test/pace.mjs [--firefox] [THREADS]        the least and the median of fifteen, in milliseconds
+//   node web/test/pace.mjs [--firefox] [THREADS]        the least and the median of fifteen, in milliseconds
 // Where the browser tells it, what is measured is the processor's time of the page's thread, and how much of it are the script, the
 // styles, the layout, and all the rest, which is mostly painting. Of a step the toolchain may take at most 4 ms, and all at most 16 ms,
 // else it fails; also while the order of two events is told. The least of the fifteen is judged, so that what else the machine does takes

@@ -1,12 +1,14 @@
 // Random actions by seed for as long as told (tests/by-hand/page). After each, what invariants.mjs says must be true: no script error, no
 // text that undo does not bring back, a lecture as wide as its window, a run that is that of a fresh replay; now and then that redo brings
 // back what undo has left, and a reload too. Memory must not grow. Where something is wrong, the last actions are told.
-//   node --experimental-websocket --experimental-wasm-memory64 web/test/random.mjs [MINUTES [SEED]]      an hour, if nothing is said
+//   node --experimental-wasm-memory64 web/test/random.mjs [--firefox] [MINUTES [SEED]]      an hour, if nothing is said
 import { openChromium } from './chromium.mjs';
+import { openFirefox } from './firefox.mjs';
 import { watch } from './invariants.mjs';
 import { PAGE, READY } from './paths.mjs';
 
-const MINUTES = Number(process.argv[2] || 60), SEED = Number(process.argv[3] || 1);
+const [minutes = 60, seed = 1] = process.argv.slice(2).filter(word => !word.startsWith('--'));
+const MINUTES = Number(minutes), SEED = Number(seed), inFirefox = process.argv.includes('--firefox');
 let state = SEED >>> 0 || 1;
 const below = n => { // as in schedules.js
   state ^= state << 13; state >>>= 0;
@@ -32,7 +34,7 @@ const FILES = { 'warned.asl': 'global g; fn f(p) { atomic { x = *p; } return x; 
   'broken.workbench': 'workbench 1\nk 99\ntext\n', 'cut.img': 'ASLM\x00\x02', 'cut.run': '\x00\x00\x00\x05ASLMxx', 'list.asm': 'version 2\nclasses 1\nglobal 0\n' };
 const TEXTS = [' ', ';', '{', '}', 'x', 'global more;', 'atomic {', '<b>', '\n', '=', '*', '\u202e'];
 
-const browser = await openChromium();
+const browser = await (inFirefox ? openFirefox : openChromium)();
 const click = selector => `(() => { const all = [...document.querySelectorAll(${JSON.stringify(selector)})].filter(e => !e.disabled);
   if (all.length) all[${below(1000)} % all.length].dispatchEvent(new MouseEvent('click', { bubbles: true, clientX: 300, clientY: 200 })); })()`;
 // Puts a text in the place of another, at random, or brings the example's text back.
@@ -124,9 +126,11 @@ async function act() {
   acting = false;
 }
 
-// Megabytes of the page's own objects and buffers, and of the module's memory, which never shrinks; and elements.
+// Megabytes of the page's own objects and buffers, and of the module's memory, which never shrinks; and elements. (Firefox does not tell
+// the first.)
 async function memory() {
   await browser.run("document.querySelector('dialog[open]')?.close(); 1");
+  if (inFirefox) return { own: 0, module: JSON.parse(await browser.run('JSON.stringify(workbench.toolStatistics())')).bytes / 1e6, nodes: await browser.run("document.querySelectorAll('*').length") };
   await browser.send('HeapProfiler.collectGarbage');
   const { usedSize, embedderHeapUsedSize = 0, backingStorageSize = 0 } = (await browser.send('Runtime.getHeapUsage')).result;
   const { nodes } = (await browser.send('Memory.getDOMCounters')).result;

@@ -128,5 +128,50 @@ await part('no sideways scrolling at 420 px', async () => {
     const [wide, seen] = await run('[document.documentElement.scrollWidth, innerWidth]');
     check(wide <= seen, `${name}: ${wide} of ${seen}`);
   }
+  await browser.size(390, 844); await open('#example=queue.asl&k=3&threads=3&steps=0011221100'); await settled();
+  const beyond = () => run("[...document.querySelectorAll('.matrix .link')].filter(e => e.getBoundingClientRect().right > document.getElementById('sections').getBoundingClientRect().right).length");
+  check(await run("document.querySelectorAll('.matrix .link').length") > 6 && await beyond() === 0, `on a phone ${await beyond()} buttons of the lists are cut`);
+  for (const width of [390, 800, 1000, 1200, 1280, 1440, 1920]) {
+    await browser.size(width, 900); await settled();
+    const out = await run("[...document.querySelectorAll('.matrix .link')].map(e => Math.round(e.getBoundingClientRect().right - e.closest('table').getBoundingClientRect().right)).filter(by => by > 1).join()");
+    check(out === '', `${width} wide, buttons stand out of their table: by ${out}`);
+  }
   await browser.size(1400, 1000);
+});
+
+await part('what a link leaves out, and its limits; the embedding has its own look, and the command line the k of the run', async () => {
+  const size = () => run('workbench.textSize()'), dark = () => run("document.documentElement.dataset.dark === '1'"), shared = words => run(`[...document.querySelectorAll('#dialog .share')].find(e => /${words}/.test(e.textContent)).querySelector('pre').textContent`);
+  await open('#example=counter.asl&threads=2&steps=0011'); check(String(await at()) === '4,4', 'without a position it is behind the last step: ' + await at());
+  await open('#example=counter.asl&threads=1000&k=12&size=8&theme=dark&keys=off'); await settled();
+  check(await run('[workbench.bench.threads, workbench.bench.k].join()') === '128,8' && await size() === 8 && await dark(), `limits: ${await run('[workbench.bench.threads, workbench.bench.k].join()')}, letters of ${await size()}`);
+  await key('0'); check(String(await at()) === '0,0', 'the keys are off');
+  await run("location.hash = '#example=bank.asl&threads=2', 1"); await until("workbench.bench.title === 'bank.asl'"); await settled();
+  await key('0'); check(String(await at()) === '1,1' && !await dark(), 'the next link has none of that: ' + await at());
+  await open('#example=bank.asl&k=1&threads=2&steps=01&at=2&lecture&size=25&theme=dark'); await settled();
+  await key('s'); await settled();
+  check(/#example=bank\.asl&k=1&threads=2&steps=01&at=2&theme=dark&view=code,time,locks&size=13"><\/iframe>$/.test(await shared('For a page of slides')), 'the embedding: ' + await shared('For a page of slides'));
+  await run("document.getElementById('dialog').close()");
+  await type((await run('workbench.bench.text')).replace('hundred = 100;', 'hundred = ;')); await key('k'); await settled(); await key('s'); await settled();
+  check(/^asl compile --k 1 < bank\.asl > bank\.img\n/.test(await shared('The same by')), 'the run is still that of k 1: ' + await shared('The same by'));
+  await run("document.getElementById('dialog').close()");
+  await browser.size(800, 450); await open('#example=bank.asl&view=code,time'); check(await run("document.body.classList.contains('no-instructions')"), 'a small page of panels has no instructions'); await browser.size(1400, 1000);
+});
+
+await part('pictures: rows below one another, nothing beyond the edge, what is scrolled away, and heads of arrows', async () => {
+  await open('#example=queue.asl&k=3&threads=3'); await key('R'); await key('s');
+  const [width, ...rows] = await run(`(svg => [Number(svg.getAttribute('width')), ...[...svg.children].filter(e => e.tagName === 'svg').map(e => ['y', 'height', 'width'].map(name => Number(e.getAttribute(name))))])(new DOMParser().parseFromString(${JSON.stringify(await savedBy('Save queue.svg'))}, 'image/svg+xml').documentElement)`);
+  let y = 0;
+  for (const [at, height, wide] of rows) { check(at === y && wide <= width, `a row at ${at}, ${wide} wide, not at ${y}, at most ${width}`); y += height; }
+  check(rows.length > 1 && rows.some(([, , wide]) => wide === width), 'it is as wide as its widest row: ' + width);
+  await run("document.getElementById('dialog').close()");
+  await open('#example=walk.asl&k=3&threads=2&steps=000000000111&at=12');
+  const shapes = text => run(`(svg => [Number(svg.getAttribute('width')), Number(svg.getAttribute('height')), Math.max(...[...svg.querySelectorAll('text,rect')].map(e => Number(e.getAttribute('x') || 0) + Number(e.getAttribute('width') || e.getAttribute('textLength') || 0))), Math.min(...[...svg.querySelectorAll('text')].map(e => Number(e.getAttribute('y')))), svg.querySelectorAll('marker').length])(new DOMParser().parseFromString(${JSON.stringify(text)}, 'image/svg+xml').documentElement)`);
+  for (const [box, name] of [['locks', 'walk-locks.svg'], ['heap', 'walk-heap.svg']]) {
+    await key('s'); const plain = await shapes(await savedBy('Save ' + name)); await run("document.getElementById('dialog').close()");
+    await run(`(e => { e.style.cssText = 'max-height:60px;overflow:auto'; e.scrollTop = 40; })(document.getElementById('${box}'))`);
+    await key('s'); const scrolled = await shapes(await savedBy('Save ' + name)); await run(`document.getElementById('dialog').close(), document.getElementById('${box}').style.cssText = ''`);
+    check(plain[2] <= plain[0] && plain[3] > 0, `${name}: ${plain[2]} of ${plain[0]}, from ${plain[3]}`);
+    check(Math.abs(scrolled[1] - plain[1]) < 12 && scrolled[3] > 0, `${name}, scrolled away: ${scrolled[1]} and ${plain[1]} high, from ${scrolled[3]}`);
+    if (box === 'heap') check(plain[4] === 1, `${name}: ${plain[4]} heads of arrows`);
+  }
 });

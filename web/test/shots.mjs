@@ -1,4 +1,4 @@
-// Pictures to look at, in a folder: node --experimental-websocket web/test/shots.mjs FOLDER [WORD..]
+// Pictures to look at, in a folder: node web/test/shots.mjs FOLDER [WORD..]
 // Each PLACE is taken in the look `light`, and those of SEEN in each look; a WORD is of the names, as in `queue-dark`.
 import { deflateRawSync } from 'node:zlib';
 import { openChromium } from './chromium.mjs';
@@ -43,6 +43,10 @@ const PLACES = {
 const LOOKS = {
   light: { w: 1400, h: 1000 },
   dark: { w: 1400, h: 1000, dark: true },
+  laptop: { w: 1280, h: 800 },
+  'laptop-dark': { w: 1280, h: 800, dark: true },
+  phone: { w: 390, h: 844, whole: true },
+  'phone-dark': { w: 390, h: 844, dark: true, whole: true },
   narrow: { w: 420, h: 900, whole: true },
   landscape: { w: 844, h: 390, whole: true },
   projector: { w: 1024, h: 768 },

@@ -1,22 +1,25 @@
-// What the drivers of both browsers share: messages over a WebSocket, each with an answer, and how a browser is ended.
+// What the drivers of both browsers share: messages over a WebSocket, each with an answer, and what is waited for.
+import { openSocket } from './frames.mjs';
+
 export const sleep = ms => new Promise(done => setTimeout(done, ms));
 // How many ms the page may take to come to what is waited for, and how many an answer may take; either fails by its name.
-export const MINUTE = 60_000, PATIENCE = 180_000;
+// (PATIENT=5 takes five times as long, on a machine that is given to others.)
+export const PATIENT = Number(process.env.PATIENT || 1), MINUTE = 60_000 * PATIENT, PATIENCE = 180_000 * PATIENT;
 
 // `heard` hears what is no answer. Where none comes, what fails has `lost`: then the browser is to be begun anew.
 export async function connect(url, name, heard) {
-  const socket = new WebSocket(url), waiting = new Map(), lost = words => Object.assign(new Error(`${name} ${words}`), { lost: true });
-  let last = 0, gone = false;
-  await new Promise((done, fail) => { socket.onopen = done; socket.onerror = () => fail(lost(`does not answer at ${url}`)); });
+  const waiting = new Map(), lost = words => Object.assign(new Error(`${name} ${words}`), { lost: true });
+  let last = 0, gone = '';
   const take = id => { const asked = waiting.get(id); waiting.delete(id); clearTimeout(asked?.late); return asked; };
-  socket.onmessage = message => {
-    const told = JSON.parse(message.data);
+  const listen = text => {
+    const told = JSON.parse(text);
     if (told.id) take(told.id)?.done(told); else heard(told); // (an answer may come too late)
   };
-  socket.onclose = () => { gone = true; for (const id of [...waiting.keys()]) take(id).fail(lost('is gone')); };
+  const over = why => { gone = `is gone after ${last} messages: ${why}`; for (const id of [...waiting.keys()]) take(id).fail(lost(gone)); };
+  const socket = await openSocket(url, listen, over).catch(error => { throw lost(`does not answer at ${url}: ${error.message}`); });
   const send = (method, params = {}, patience = PATIENCE) => new Promise((done, fail) => {
-    if (gone) return fail(lost('is gone'));
-    const id = ++last, late = setTimeout(() => take(id).fail(lost(`gives no answer to ${method}`)), patience);
+    if (gone) return fail(lost(gone));
+    const id = ++last, late = setTimeout(() => take(id)?.fail(lost(`gives no answer to ${method}`)), patience);
     waiting.set(id, { done, fail, late });
     socket.send(JSON.stringify({ id, method, params }));
   });
@@ -35,13 +38,4 @@ export async function comes(is, patience = MINUTE) {
 export async function sized(run, width, height) {
   await comes(() => run(`innerWidth === ${width} && innerHeight === ${height}`), 10_000);
   await run('new Promise(done => { requestAnimationFrame(() => setTimeout(done)); setTimeout(done, 2000); })');
-}
-
-export async function end(child) {
-  const over = new Promise(done => { child.once('exit', done); });
-  if (child.exitCode !== null || child.signalCode !== null) return;
-  child.kill();
-  const late = setTimeout(() => child.kill('SIGKILL'), 10_000);
-  await over;
-  clearTimeout(late);
 }

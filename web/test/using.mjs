@@ -59,6 +59,10 @@ await part('keys', async () => {
   await key('A'); check(await run('workbench.textSize()') === 17, 'A'); await key('a');
   await key('L'); check(await run("document.body.classList.contains('lecture')"), 'L'); await key('L');
   await key('m'); check(await run("document.body.classList.contains('no-instructions')"), 'm'); await key('m');
+  await browser.size(1280, 720); await key('?'); await settled();
+  const [first, second] = await run("[...document.querySelectorAll('#dialog .keys table')].map(e => [e, e.querySelector('td')].map(e => e.getBoundingClientRect()).flatMap(r => [r.left, r.top, r.width]).map(Math.round))");
+  check(first[1] === second[1] && first[0] + first[2] <= second[0] && first[5] === second[5], `? has two columns, each with room as wide for its keys: ${first} / ${second}`);
+  await run("document.getElementById('dialog').close()"); await browser.size(1400, 1000);
   for (const open of ['x', 's', '?']) { await key(open); await settled(); check(await run("document.getElementById('dialog').open"), open); await run("document.getElementById('dialog').close()"); }
   await key('e'); check(await run("document.activeElement.id") === 'text', 'e');
   const steps = (await at())[1]; await key('0'); check((await at())[1] === steps, 'a digit in the editor is text');
@@ -73,6 +77,7 @@ await part('refusals are shown at their place', async () => {
   for (const [text, line, column] of cases) {
     await type(text);
     const said = await run("document.getElementById('complaint').textContent");
+    check(!/; ;/.test(said), 'a semicolon is told by words: ' + said);
     check(said.includes(`Line ${line}, column ${column}:`), `${line}:${column} ${said.slice(0, 60)}`);
     check(await run("workbench.bench.run.length") === 4, 'the run stays');
   }

@@ -72,10 +72,10 @@ function rowOf(bench, row, i) {
   const pieces = piecesOf(row);
   const chain = /^ {6}(line \d+ +)(.*?)( {2,}.*|$)/.exec(row);
   if (chain) return el('li', {}, lineButton(bench, String(i), lineOf(pieces[1]),
-    chain.slice(1).map(part => el('span', {}, part)), 'link-of'));
+    chain.slice(1).map(part => el('span', {}, withCode(part))), 'link-of'));
   const depth = row.search(/\S/);
   return el('li', { class: depth ? 'why-' + depth : 'members' }, pieces.map((piece, n) => (n % 2
-    ? lineButton(bench, `${i}-${n}`, lineOf(piece), piece, 'link') : n ? piece : piece.trimStart())));
+    ? lineButton(bench, `${i}-${n}`, lineOf(piece), piece, 'link') : withCode(n ? piece : piece.trimStart()))));
 }
 
 function content(bench) {
@@ -119,6 +119,7 @@ export function drawClasses(bench) {
   const first = byId('class-rows').querySelector('.link-of') || byId('class-rows').querySelector('button') || byId('class-close');
   Promise.resolve().then(() => { // (what is drawn keeps the focus where it was)
     first.focus({ preventScroll: true });
+    if (first.dataset.keep?.startsWith('class-line')) first.click();
     box.scrollIntoView({ block: 'nearest' });
   });
 }

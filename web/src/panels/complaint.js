@@ -1,4 +1,5 @@
-// A refusal of the text, below it: line, column, the line with a caret, plain words.
+// A refusal of the text, below it: line, column, the line with a caret, plain words. The line is shown again, since its own place may be
+// scrolled away, and it may have marks that cannot be seen there.
 
 import { byId, el, renew, withCode } from '../dom.js';
 

@@ -2,13 +2,13 @@
 // the program.
 
 import { byId, chip, el, renew } from '../dom.js';
-import { note, openDialog } from '../page.js';
+import { note, openDialog, tellForbidden } from '../page.js';
 import { isForbidden } from '../lessons.js';
 import { rows } from './rows.js';
 import { backToBreak, breaks, goer, toAtomic, toBreak, toEvent, toggleBreak, toLine, toSectionEnd } from '../go.js';
 
 const asked = { line: '' };
-const allowed = go => (isForbidden('go') ? note('This step of the lesson is to be done without it.') : go());
+const allowed = go => (isForbidden('go') ? tellForbidden('go') : go());
 const told = promise => promise.then(words => { if (words) note(words); });
 const goes = { atomic: toAtomic, end: toSectionEnd, event: toEvent, break: toBreak, back: backToBreak };
 export const go = (bench, what) => allowed(() => told(goes[what](bench)));
@@ -49,7 +49,7 @@ export function drawGo(bench) {
     button(bench, 'go-back', 'back to one', 'Back to a breakpoint (,)', () => go(bench, 'back'), !breaks.size));
 }
 
-// A dot before the number of a line with a breakpoint.
+// A dot before the number of a line with a breakpoint. Rows keep what is put there by hand when they get other lines.
 export function drawBreaks() {
   [...byId('numbers').children].forEach((row, i) => row.classList.toggle('break', breaks.has(rows.from + i)));
 }

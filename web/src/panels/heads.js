@@ -1,12 +1,13 @@
-// The heads of the lanes: buttons that step a thread.
+// The heads of the lanes: buttons that step a thread. They stand beside the drawing and not in it, since keys and screen readers reach
+// buttons alone.
 
 import { el, chip, threadColour } from '../dom.js';
 import { waitAt } from '../stretches.js';
 
 export const TOP = 24; // where the first lane begins
-export const MANY = 12; // with more threads only those that do something are shown
+export const MANY = 12; // with more threads only those that do something are shown: no window is as high as all lanes
 
-// A lane's head is a button that steps its thread; it says what comes next there.
+// Each says what comes next there: one who chooses a thread wants to know that before the step.
 export function heads(bench, plan, scale, narrow) {
   return bench.state.threads.flatMap((thread, t) => {
     if (plan.lane[t] < 0) return [];
@@ -29,8 +30,8 @@ function headLabel(bench, thread, t) {
 }
 
 function headWords(bench, thread, t, wait, plan) {
-  if (thread.status !== 'runs') return el('span', { class: 'todo soft' },
-    thread.status === 'done' ? '✓ done' : '▲ ' + thread.fault);
+  if (thread.status !== 'runs') return el('span', { class: 'todo soft' + (plan.step < 38 ? ' one' : '') },
+    thread.status === 'done' ? '✓ done' : ['▲ fault', el('small', {}, bench.names.missing(thread.fault) || thread.fault)]);
   const words = el('code', {}, bench.names.statement(thread.pc));
   const where = el('small', {}, (!bench.asks && outlook(bench, thread, t, wait)) || bench.names.where(thread.pc));
   return el('span', { class: 'todo' + (plan.step < 38 ? ' one' : '') }, words, where);

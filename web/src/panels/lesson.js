@@ -1,11 +1,12 @@
 // A lesson beside the panels: its steps, those done ticked, the present one with a hint on request.
 
 import { byId, el, renew, setText, whenDrawn, withCode } from '../dom.js';
-import { LESSONS, addLesson, advance, chosen, examplesOf, endLesson, isForbidden, isOpened, isOver, isOfPage, lesson,
-  openingAt } from '../lessons.js';
-import { readLesson } from '../lessontext.js';
+import { LESSONS, addLesson, advance, brokenHere, chosen, examplesOf, endLesson, isForbidden, isOpened, isOver, isOfPage, lesson,
+  lessonState } from '../lessons.js';
+import { openingAt, readLesson } from '../lessontext.js';
 import { checkLesson } from '../lessoncheck.js';
 import { untilDone } from '../aside.js';
+import { hasOwn } from '../own.js';
 import { showOwn } from './own.js';
 import { note, openDialog } from '../page.js';
 import { packText, unpackText } from '../pack.js';
@@ -37,8 +38,17 @@ export async function openLessonText(bench, text) {
   return wrong;
 }
 
-// The state of a lesson as words of a link, and back: null where they name no lesson. A lesson that is none of the page's is in them.
-export const lessonWords = state => (!state ? [] : [
+// Makes those known that were opened before a reload.
+export async function bringOpened(files) {
+  for (const file of files) {
+    const { lesson: read } = readLesson(file, examplesOf());
+    if (read) addLesson({ ...read, packed: await packText(read.bare) });
+  }
+}
+
+// The state of a lesson as words of a link, and back: null where they name no lesson. A lesson that is none of the page's is in them. While
+// an answer is looked at, the lesson is none of what is seen.
+export const lessonWords = state => (!state || state.aside ? [] : [
   isOfPage(state.number) ? 'lesson=' + (state.number + 1) : 'lesson-text=' + LESSONS[state.number].packed, 'done=' + state.done,
   ...(lesson.did && state.done ? ['did=' + lesson.did] : [])]);
 export async function lessonOf(said) {
@@ -53,9 +63,9 @@ const asRow = row => row.trim().slice(0, 120).replace(/\p{Cf}/gu, '\uFFFD');
 export const refusalList = wrong => el('ol', { class: 'refusals' }, wrong.map(({ line, words, row }) => el('li', {},
   el('b', {}, `Line ${line}: `), withCode(words), '.', row.trim() ? el('pre', {}, asRow(row)) : null)));
 
-// What files are refused for, each { name, wrong }, among so many.
-export function tellRefused(refused, all) {
-  const others = all - refused.length, one = refused.length === 1;
+// What files are refused for, each { name, wrong }; so many others were opened.
+export function tellRefused(refused, others) {
+  const one = refused.length === 1;
   openDialog(one ? `${refused[0].name} is refused` : `${refused.length} files are refused`,
     el('p', {}, others < 1 ? 'Nothing was opened.' : others === 1 ? 'The other file was opened.' : `The other ${others} files were opened.`,
       ' What is wrong:'),
@@ -66,6 +76,7 @@ export function closeLesson(bench) {
   bench.keep();
   endLesson();
   drawLesson(bench);
+  bench.changed('lesson');
 }
 
 function hintOf(bench, step) {
@@ -76,7 +87,8 @@ function hintOf(bench, step) {
 
 // By key to the choices of the present step, or to what opens its program, and from one choice to the next.
 export function toChoices() {
-  const first = !byId('s-lesson').hidden && byId('lesson-steps').querySelector('[data-keep="lesson-open"],.choices button');
+  const place = '[data-keep="lesson-back"],[data-keep="lesson-open"],.choices button';
+  const first = !byId('s-lesson').hidden && byId('s-lesson').querySelector(place);
   if (first) first.focus(); else note('No step of a lesson waits for a choice.');
 }
 function fromChoiceToChoice(event) {
@@ -98,32 +110,43 @@ const choicesOf = (bench, step) => step.choices.length ? el('span', { class: 'ch
   lesson.missed ? el('em', {}, lesson.picked[lesson.done] === step.right ? ' Right, but there is more to do.'
     : ` No, it is another one (${lesson.missed} wrong so far).`) : null) : null;
 
-// Where another program is to be open than the one that is there.
-function toOpen(bench, step) {
-  const opening = openingAt(chosen(), lesson.done);
-  if (isOpened(bench, opening)) return null;
-  return el('button', { class: 'link', 'data-keep': 'lesson-open',
-    onclick: () => { showOwn(opening.own.length > 0); bench.load(open(opening)); } }, 'open ' + opening.title);
+// Where another program is to be open than the one that is there, or what is there is forbidden.
+function toOpen(bench) {
+  const opening = openingAt(chosen(), lesson.done), broke = brokenHere(bench);
+  if (isOpened(bench, opening) && !broke.length) return null;
+  return [broke.length ? el('em', {}, `It is not done with ${broke.join(' and ')}: `) : null,
+    el('button', { class: 'link', 'data-keep': 'lesson-open',
+      onclick: () => { showOwn(opening.own.length > 0); bench.load(open(opening)); } }, 'open ' + opening.title)];
 }
+// What was there before an answer was looked at, with the lesson.
+export function backToLesson(bench) {
+  const { aside } = lesson;
+  showOwn(hasOwn(aside.own));
+  return bench.load({ ...aside, lesson: { ...lessonState(), aside: null } });
+}
+const waits = bench => ['While an answer is looked at, the lesson waits: ',
+  el('button', { class: 'link', 'data-keep': 'lesson-back', onclick: () => backToLesson(bench) }, 'back to your run')];
 
 function stepRow(bench, step, i) {
   const state = i < lesson.done ? 'done' : i === lesson.done ? 'present' : 'later', present = state === 'present';
   return el('li', { class: state + (i === lesson.done - 1 ? ' newest' : ''), 'aria-current': present ? 'step' : null },
     el('span', { class: 'tick' }, state === 'done' ? '✓ ' : '▢ '), withCode(step.text), ' ',
-    present ? [toOpen(bench, step), ' ', hintOf(bench, step), choicesOf(bench, step)] : null,
+    present && !lesson.aside ? [toOpen(bench), ' ', hintOf(bench, step), choicesOf(bench, step)] : null,
+    state === 'done' && lesson.picked[i] ? [' Chosen: ', el('q', {}, withCode(lesson.picked[i]))] : null,
     state === 'done' && step.then ? el('span', { class: 'then' }, ' ', withCode(step.then)) : null);
 }
 
 export function drawLesson(bench) {
   const box = byId('s-lesson'), read = chosen();
   box.hidden = !read;
+  if (read) advance(bench, () => bench.changed('lesson'));
   byId('text').readOnly = isForbidden('edit');
   if (!read) return;
-  advance(bench, () => bench.changed('lesson'));
   const source = byId('lesson-source');
   source.hidden = !read.source;
   setText(source.lastChild, read.source);
   setText(byId('lesson-title'), isOfPage(lesson.number) ? `Lesson ${lesson.number + 1}: ${read.title}` : read.title);
+  renew(byId('lesson-waits'), lesson.aside ? waits(bench) : null);
   renew(byId('lesson-about'), withCode(read.about));
   renew(byId('lesson-steps'), read.steps.map((step, i) => stepRow(bench, step, i)));
   renew(byId('lesson-end'), withCode(isOver() ? 'Done. ' + read.answer : ''));
@@ -131,17 +154,25 @@ export function drawLesson(bench) {
 }
 
 // Where there is no room for the whole lesson, as in a lecture, its present step is at the top; above it what is told of the one that was
-// just done, if both have room; and behind the last one the answer.
-const seen = { step: null, lesson: -1 };
+// just done, if both have room; and behind the last one the answer. Where it cannot come to the top, the lesson stands at its title, or if
+// that leaves no room for the step, there is room made below: the title is whole or out of sight.
+const seen = { step: null, lesson: -1, waits: false };
 function keepStepInSight(box) {
-  if (box.scrollHeight <= box.clientHeight + 4) { seen.lesson = -1; return null; }
-  if (seen.step === lesson.done && seen.lesson === lesson.number) return null;
-  Object.assign(seen, { step: lesson.done, lesson: lesson.number });
-  const step = box.querySelector('li.present') || byId('lesson-end'), outer = box.getBoundingClientRect();
+  const end = byId('lesson-end'), made = parseFloat(end.style.paddingBottom) || 0;
+  if (box.scrollHeight - made <= box.clientHeight + 4) { seen.lesson = -1; return () => { end.style.paddingBottom = ''; }; }
+  const waiting = Boolean(lesson.aside);
+  if (seen.step === lesson.done && seen.lesson === lesson.number && seen.waits === waiting) return null;
+  Object.assign(seen, { step: lesson.done, lesson: lesson.number, waits: waiting });
+  const step = waiting ? byId('lesson-waits') : box.querySelector('li.present') || byId('lesson-end'), outer = box.getBoundingClientRect();
   const inner = step.getBoundingClientRect();
-  const told = box.querySelector('li.newest .then')?.getBoundingClientRect();
+  const told = !waiting && box.querySelector('li.newest .then')?.getBoundingClientRect();
   const top = told && inner.bottom - told.top < outer.height - 8 ? told.top : inner.top;
-  return () => { box.scrollTop += top - outer.top - 4; };
+  const to = box.scrollTop + top - outer.top - 4, most = box.scrollHeight - made - box.clientHeight;
+  const isBelow = to > most, fits = inner.bottom - outer.top + box.scrollTop < outer.height - 4;
+  return () => {
+    end.style.paddingBottom = isBelow && !fits ? to - most + 'px' : '';
+    box.scrollTop = isBelow && fits ? 0 : to;
+  };
 }
 
 export const lessonList = (openIt, linkTo) => el('ol', { class: 'lessons' },

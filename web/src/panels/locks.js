@@ -63,13 +63,21 @@ function rows(bench, waits, threads) {
   return [...nodes].sort((a, b) => key(a).map((x, i) => x - key(b)[i]).find(d => d) || 0);
 }
 
+// A cell of an object by the one global that points to the object, as *cid or cid[1]; none where there is no such, or several.
+function pathTo(bench, node) {
+  const [object, cell] = node.slice(5).split('.').map(Number), globals = bench.program.globals.length;
+  const from = bench.state.objects.slice(0, globals).flatMap(([value], g) => (value === `addr ${object}.0` ? [bench.names.global(g)] : []));
+  return object < globals || from.length !== 1 ? '' : cell ? `${from[0]}[${cell}]` : '*' + from[0];
+}
+
 function nodeName(bench, node) {
   if (node === 'root') return el('b', {}, 'root');
   if (node.startsWith('class')) return ['└ ', el('b', {}, node), ' ',
     el('span', { class: 'soft' }, bench.names.classMembers(Number(node.slice(6)))), ' ',
     classLink(bench, Number(node.slice(6)), 'tree', 'why')];
-  return el('span', { class: 'leaf' }, '└ ', el('b', {}, bench.names.cell(node.slice(5))), ' ',
-    el('span', { class: 'soft' }, node));
+  const path = pathTo(bench, node);
+  return el('span', { class: 'leaf' }, '└ ', path ? [el('b', {}, path), ' ', bench.names.cell(node.slice(5))]
+    : el('b', {}, bench.names.cell(node.slice(5))), ' ', el('span', { class: 'soft' }, node));
 }
 
 function cell(bench, node, t, wait, clashes) {

@@ -1,4 +1,5 @@
-// Notes of one's own on lines: below the program as a list, and the dialog that writes one.
+// Notes of one's own on lines: below the program as a list, since in the text they are painted, where no key reaches them; and the dialog
+// that writes one.
 
 import { byId, el, renew } from '../dom.js';
 import { MOST_LETTERS, withNote } from '../notes.js';

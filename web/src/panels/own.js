@@ -1,11 +1,12 @@
 // Lists by hand: beside a source the list of each section, to be edited, in the assembly's words and in those of the source; and
-// whether they are enough, first by a word, and which lock is missing on request.
+// whether they are enough, first by a word, and which lock is missing on request: who learns is to find it himself.
 
 import { byId, el, renew, setText, withCode } from '../dom.js';
 import { acquireOf, functionAt, readProgram } from '../program.js';
 import { partsOfText } from '../own.js';
 import { verdictOf } from '../verdict.js';
-import { chosen, isForbidden, isOpened, openingAt, lesson, presentStep } from '../lessons.js';
+import { chosen, isForbidden, isOpened, lesson, presentStep } from '../lessons.js';
+import { openingAt } from '../lessontext.js';
 
 const shown = { is: false, which: '', were: false, enter: false };
 export const showOwn = is => { shown.is = is; };
@@ -18,7 +19,7 @@ export function enterOwn(bench) {
 function enter(bench) {
   shown.enter = false;
   const areas = [...byId('own-lists').querySelectorAll('textarea')];
-  const area = areas.find(({ dataset }) => bench.own[dataset.list] != null) || areas[0];
+  const area = areas.find(({ dataset }) => bench.own[dataset.list] !== undefined) || areas[0];
   area?.focus();
   area?.setSelectionRange(area.value.length, area.value.length);
 }
@@ -40,7 +41,7 @@ const registersOf = (bench, f) => Array.from({ length: bench.program.functions[f
   .filter(([r, name]) => name !== 'r' + r).map(([r, name], i) => [i ? ', ' : '', el('code', {}, 'r' + r), ' is ', el('code', {}, name)]);
 
 function headOf(bench, s, pc) {
-  const own = bench.own[s] !== undefined && bench.own[s] !== null, asInferred = Object.assign([], bench.own, { [s]: undefined });
+  const own = bench.own[s] !== undefined, asInferred = Object.assign([], bench.own, { [s]: undefined });
   return el('div', {}, el('b', {}, `section ${s}`), pc < 0 ? ', not reached '
     : [` ${bench.names.where(pc)}, in `, el('code', {}, bench.names.functionAt(pc)), ' '],
   own ? el('button', { class: 'link', 'data-keep': 'inferred-' + s, title: 'The inferred list again',

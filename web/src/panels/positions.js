@@ -79,8 +79,15 @@ function keepInSight(bench, line, others) {
   const { refusal } = bench, isNew = refusal && followed.refusal !== refusal;
   followed.refusal = refusal;
   if (document.activeElement === byId('text')) return null;
-  const top = isNew && refusal.line ? placeFor(refusal.line - 1, []) : line >= 0 && !refusal ? placeFor(line, others) : null;
+  const top = isNew && refusal.line ? placeFor(refusal.line - 1, [])
+    : line >= 0 && !refusal ? placeFor(line, [endOfList(line), ...others]) : null;
   return top === null ? null : () => scrollEditor(top);
+}
+
+// The line at which the list ends that begins at a line: without the instructions it has several.
+function endOfList(line) {
+  const height = rowOf('instructions', line)?.querySelector('.takes')?.offsetHeight || 0;
+  return line + Math.max(0, Math.ceil(height / rows.height - 1.2));
 }
 
 function bringInSight(line) {

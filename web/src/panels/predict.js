@@ -1,4 +1,5 @@
-// The question before a step, its choices as buttons with keys of their own, and the count of hits.
+// The question before a step, its choices as buttons, and the count of hits. While it is asked, keys are those of its choices: the digits
+// would step other threads.
 
 import { byId, chip, el, renew, setText, withCode } from '../dom.js';
 import { answer, drop, predict, question, setPredict } from '../predict.js';

@@ -53,6 +53,8 @@ export function placeFor(line, others) {
   }
   const top = from * rows.height + edge, bottom = top + (to - from + 1) * rows.height;
   if (top >= scrollTop && bottom <= scrollTop + clientHeight) return null;
-  return Math.max(0, (top + bottom - clientHeight) / 2);
+  // (at a whole line, where that leaves them in sight)
+  const middle = Math.max(0, (top + bottom - clientHeight) / 2), whole = Math.floor((middle - edge) / rows.height) * rows.height + edge;
+  return whole > 0 && bottom <= whole + clientHeight ? whole : middle;
 }
 export const scrollEditor = top => { byId('editor').scrollTop = box.top = top; };

@@ -1,4 +1,5 @@
-// The whole run as a strip; a click goes there.
+// The whole run as a strip, since the lanes show but a part of a long one; a click goes there. It is a canvas: a mark for each of 10,000
+// events would be as many elements.
 
 import { byId, whenDrawn } from '../dom.js';
 import { zoom } from './timeline.js';

@@ -1,4 +1,5 @@
-// Each thread: what it is at, why it waits, its registers by variable name.
+// Each thread: what it is at, why it waits, its registers by variable name. Of more than eight those have a box that step or hold
+// something; the others would hide them.
 
 import { byId, el, chip, threadColour, count, renew, whenDrawn } from '../dom.js';
 import { functionAt } from '../program.js';
@@ -47,7 +48,8 @@ function waitingFrame(bench, t, level, frame) {
 
 function status(bench, thread, t) {
   if (thread.status === 'done') return el('span', {}, '✓ done with ', el('b', {}, bench.names.value(thread.value)));
-  if (thread.status === 'failed') return el('span', { class: 'is-fault' }, '▲ failed: ' + thread.fault);
+  if (thread.status === 'failed') return el('span', { class: 'is-fault' }, '▲ failed: ',
+    bench.names.missing(thread.fault) || thread.fault);
   if (waitAt(bench.stretches, t, bench.position)) return el('span', { class: 'is-blocked' }, '⊠ blocked');
   if (thread.depth) return el('span', {}, thread.depth > 1 ? `in a section, depth ${thread.depth}` : 'in a section');
   return el('span', {}, 'runs');

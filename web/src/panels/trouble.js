@@ -1,4 +1,5 @@
-// What could not be opened and why, in plain words, in its place until it is closed.
+// What could not be opened and why, in plain words. It stays until it is closed: a message that goes by itself is missed by who looks at
+// his files, and several files may be refused at once.
 
 import { byId, el, renew, withCode } from '../dom.js';
 
