@@ -7,8 +7,19 @@ use crate::order::is_below;
 use asl_lock_forest::Node;
 use asl_mode_lanes::{Mode, compatible};
 
-/// Whether the modes that two rising requests ask go together at every node.
+/// Whether the modes that two rising requests ask go together at every node: at once where the second asks nothing, as of most threads.
+#[inline(always)]
 pub fn go_together(a: &[(Node, Mode)], b: &[(Node, Mode)]) -> bool
+    requires a_rises { IsTrue (is_rising a.now) }
+    requires b_rises { IsTrue (is_rising b.now) }
+    ensures together { IsTrue result → GoTogether a.now b.now }
+    ensures clash { result ≡ false → Clash a.now b.now }
+{
+    b.is_empty() || go_side_by_side(a, b)
+}
+
+/// The same, node by node.
+fn go_side_by_side(a: &[(Node, Mode)], b: &[(Node, Mode)]) -> bool
     requires a_rises { IsTrue (is_rising a.now) }
     requires b_rises { IsTrue (is_rising b.now) }
     ensures together { IsTrue result → GoTogether a.now b.now }

@@ -3,7 +3,7 @@ use Rattle.std.proofs.lemmas.Bool.{false_from_ne_true, both_ways}
 use Rattle.asl_mode_lanes.specs.declared.mode.Mode.TheVariants.{NL}
 use Rattle.asl_lock_forest.specs.declared.node.Node.TheVariants.{Root}
 use Rattle.asl_lock_queue.proofs.TogetherLaws.{compared_left, compared_right, compared_both, clash_at}
-use Rattle.asl_lock_queue.proofs.together.go_together.Goals as goal
+use Rattle.asl_lock_queue.proofs.together.go_side_by_side.Goals as goal
 
 pub loop-i-preserved-then-is_below : goal.loop-i-preserved-then-is_below
 loop-i-preserved-then-is_below c =
