@@ -1,15 +1,15 @@
 //! A queue for C, and a vector in which the request of a call is made.
-ghost use Rattle.std.specs.Prelude.{◌≡◌, ◌≢◌, ◌<◌, ◌≤◌, ◌++◌, [], ◌∷◌, true, false, IsTrue, IfOk, OnOk, OnErr, length, map, take, drop, nat_lt, if◌then◌else◌};
+ghost use Rattle.std.specs.Prelude.{◌≡◌, ◌≢◌, ◌<◌, ◌≤◌, ◌++◌, [], ◌∷◌, true, false, IsTrue, IfOk, OnOk, OnErr, length, map, take, drop, nat_lt, vec_capacity, if◌then◌else◌};
 ghost use Rattle.asl_mode_lanes.specs.Row.{mode_of};
-ghost use Rattle.asl_lock_forest.specs.Holding.{no_holding, grant};
-ghost use Rattle.asl_lock_queue.specs.Waiting.{MayGo, IsKept};
-ghost use Rattle.asl_lock_queue.specs.QueueState.{IsQueue};
+ghost use Rattle.asl_lock_forest.specs.Holding.{no_holding, grant, HoldsNothing};
+ghost use Rattle.asl_lock_queue.specs.Waiting.{MayGo, IsKept, IsAbsent};
+ghost use Rattle.asl_lock_queue.specs.QueueState.{IsQueue, IsAskable};
 ghost use Rattle.asl_lock_queue.specs.Served.{IsServed};
 ghost use Rattle.asl_lock_queue.specs.Asks.{ask_of};
 ghost use Rattle.asl_c_forest.specs.QueueStatus.{queue_fault};
 
 use crate::c_request::read_into;
-use crate::queue_fits::queue_fault;
+use crate::queue_fits::{queue_fault, reads_well};
 use asl_lock_forest::Node;
 use asl_lock_queue::{Ask, Queue};
 use asl_mode_lanes::Mode;
@@ -100,13 +100,13 @@ impl Desk {
         ensures threads { self.new.threads ≡ self.old.threads }
         ensures room { self.new.room ≡ self.old.room }
     {
-        let fault = queue_fault(&self.queue, thread, asks);
-        if fault != 0 {
-            return fault;
-        }
-        if read_into(&mut self.asks, asks).is_err() {
-            self.asks.clear();
-            return 2;
+        let status = if asks.len() <= self.queue.room() {
+            take_in(&self.queue, &mut self.asks, thread, asks)
+        } else {
+            make_room(&self.queue, &mut self.asks, thread, asks)
+        };
+        if status != 0 {
+            return status;
         }
         u32::from(!self.queue.acquire(thread, &mut self.asks))
     }
@@ -123,4 +123,55 @@ impl Desk {
     {
         self.queue.release(thread, named)
     }
+}
+
+/// Reads what is asked, for which there is room, and answers 0; or why the thread cannot ask it: the status of the first thing that is wrong.
+/// What can be asked is judged as it is read; what is wrong of the rest is looked for then.
+fn take_in(queue: &Queue, request: &mut Vec<(Node, Mode)>, thread: u32, asks: &[Ask]) -> u32
+    requires empty { request.old.items ≡ [] }
+    requires fits { length asks.now ≤ vec_capacity request.old }
+    ensures fault { queue_fault queue.now thread asks.now ≢ 0 → result ≡ queue_fault queue.now thread asks.now }
+    ensures done { queue_fault queue.now thread asks.now ≡ 0 → result ≤ 2 }
+    ensures other { (result ≢ 1) × (result ≢ 3) }
+    ensures memory { result ≡ 2 → vec_capacity request.old < length asks.now }
+    ensures there { result ≡ 0 → thread < queue.now.threads }
+    ensures askable { result ≡ 0 → IsAskable queue.now.classes (map ask_of asks.now) }
+    ensures nothing { result ≡ 0 → HoldsNothing queue.now.holding thread }
+    ensures absent { result ≡ 0 → IsAbsent thread queue.now.waiting }
+    ensures read { result ≡ 0 → request.new.items ≡ map ask_of asks.now }
+    ensures empty { result ≢ 0 → request.new.items ≡ [] }
+    ensures room { vec_capacity request.old ≤ vec_capacity request.new }
+{
+    if reads_well(queue, thread, asks, request) {
+        return 0;
+    }
+    request.clear();
+    make_room(queue, request, thread, asks)
+}
+
+/// Judges what is asked before it makes room for it, so that nobody gets memory for what he cannot ask; answers as the one above, and 2 where
+/// memory is refused.
+fn make_room(queue: &Queue, request: &mut Vec<(Node, Mode)>, thread: u32, asks: &[Ask]) -> u32
+    requires empty { request.old.items ≡ [] }
+    ensures fault { queue_fault queue.now thread asks.now ≢ 0 → result ≡ queue_fault queue.now thread asks.now }
+    ensures done { queue_fault queue.now thread asks.now ≡ 0 → result ≤ 2 }
+    ensures other { (result ≢ 1) × (result ≢ 3) }
+    ensures memory { result ≡ 2 → vec_capacity request.old < length asks.now }
+    ensures there { result ≡ 0 → thread < queue.now.threads }
+    ensures askable { result ≡ 0 → IsAskable queue.now.classes (map ask_of asks.now) }
+    ensures nothing { result ≡ 0 → HoldsNothing queue.now.holding thread }
+    ensures absent { result ≡ 0 → IsAbsent thread queue.now.waiting }
+    ensures read { result ≡ 0 → request.new.items ≡ map ask_of asks.now }
+    ensures empty { result ≢ 0 → request.new.items ≡ [] }
+    ensures room { vec_capacity request.old ≤ vec_capacity request.new }
+{
+    let fault = queue_fault(queue, thread, asks);
+    if fault != 0 {
+        return fault;
+    }
+    if read_into(request, asks).is_err() {
+        request.clear();
+        return 2;
+    }
+    0
 }
