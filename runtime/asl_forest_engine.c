@@ -125,9 +125,14 @@ static bool may_read(mine *self, aslr_value at) {
   return true;
 }
 
-static void ask_cell(request *all, aslr_value at, uint8_t mode, uint8_t above) {
-  ask_above(all, root_node(), above);
-  ask_above(all, class_node(aslr_object_of(at)->klass), above);
+/* Whatever is asked, the root is asked too, and stands first. */
+static inline void ask_root(request *all, uint8_t mode) { ask_above(all, 0, root_node(), mode); }
+
+static inline void ask_class(request *all, uint16_t klass, uint8_t mode) { ask_above(all, 1, class_node(klass), mode); }
+
+static inline void ask_cell(request *all, aslr_value at, uint8_t mode, uint8_t above) {
+  ask_root(all, above);
+  ask_class(all, aslr_object_of(at)->klass, above);
   ask(all, leaf_node(at), mode);
 }
 
@@ -135,10 +140,10 @@ static void ask_lock(forest_thread *my, const aslr_lock *lock) {
   uint8_t above = lock->mode == ASL_X ? ASL_IX : ASL_IS;
   aslr_value at;
   if (lock->kind == ASL_ROOT) {
-    ask_above(&my->asked, root_node(), lock->mode);
+    ask_root(&my->asked, lock->mode);
   } else if (lock->kind == ASL_CLASS) {
-    ask_above(&my->asked, root_node(), above);
-    ask_above(&my->asked, class_node(lock->at), lock->mode);
+    ask_root(&my->asked, above);
+    ask_class(&my->asked, lock->at, lock->mode);
   } else {
     switch (locate(my->self->thread.runtime, lock, my->registers, may_read, my->self, &at)) {
     case A_CELL: ask_cell(&my->asked, at, lock->mode, above); break;

@@ -87,13 +87,13 @@ static void ask_lock(const aslr_runtime *runtime, const aslr_lock *lock, const a
   uint8_t above = lock->mode == ASL_X ? ASL_IX : ASL_IS;
   aslr_value at;
   if (lock->kind == ASL_ROOT) {
-    ask_above(all, 0, lock->mode);
+    ask_above(all, 0, 0, lock->mode);
   } else if (lock->kind == ASL_CLASS) {
-    if (engine->root_is_named) ask_above(all, 0, above);
+    if (engine->root_is_named) ask_above(all, 0, 0, above);
     ask(all, class_node(lock->at), lock->mode);
   } else if (locate(runtime, lock, registers, NULL, NULL, &at) == A_CELL) {
     uint16_t klass = aslr_object_of(at)->klass;
-    if (engine->root_is_named) ask_above(all, 0, above);
+    if (engine->root_is_named) ask_above(all, 0, 0, above);
     if (engine->class_is_named[klass]) ask(all, class_node(klass), above);
     ask(all, leaf_node(runtime, at), lock->mode);
   }

@@ -35,15 +35,16 @@ static inline void ask_at(request *all, size_t place, uint64_t node, uint8_t mod
   all->count++;
 }
 
-/* Asks for the mode at the node too. Its place is looked for from the end; what is above leaves stands in front, and is looked for from there. */
+/* Asks for the mode at the node too. Its place is looked for from the end; what is above leaves stands in front, and is looked for from there,
+ * behind so many others. */
 static inline void ask(request *all, uint64_t node, uint8_t mode) {
   size_t place = all->count;
   while (place > 0 && node_of(all->wants[place - 1]) >= node) place--;
   ask_at(all, place, node, mode);
 }
 
-static inline void ask_above(request *all, uint64_t node, uint8_t mode) {
-  size_t place = 0;
+static inline void ask_above(request *all, size_t behind, uint64_t node, uint8_t mode) {
+  size_t place = behind;
   while (place < all->count && node_of(all->wants[place]) < node) place++;
   ask_at(all, place, node, mode);
 }
