@@ -95,6 +95,7 @@ number_value ds = value_from 0 ds
 abbrev pub letters_token : List ℕ → ℕ → Token × ℕ
 letters_token bs n = (word_or_name (word_of (take n bs)) (take n bs), n)
 
+-- the number of the first n bytes, which are digits, and n
 abbrev pub digits_token : List ℕ → ℕ → Token × ℕ
 digits_token bs n = (Number (number_value (take n bs)), n)
 
@@ -135,6 +136,7 @@ bad_from (b ∷ bs) zero at =
 abbrev pub tokens_of : List ℕ → List Spot
 tokens_of text = spots text 0 0
 
+-- the first place of a whole text where neither a blank nor a token stands
 abbrev pub bad_place : List ℕ → Option ℕ
 bad_place text = bad_from text 0 0
 

@@ -87,6 +87,7 @@ pub record IsSection (l : Lowered) (number : ℕ) : Type 0 where
 abbrev pub acquire_of : Lowered → ℕ → Option ℕ
 acquire_of l number = option_map (λ (s : Section). s.acquire) (slice_get l.sections number)
 
+-- where the `rel` of the section of this number stands
 abbrev pub release_of : Lowered → ℕ → Option ℕ
 release_of l number = option_map (λ (s : Section). s.release) (slice_get l.sections number)
 

@@ -20,6 +20,7 @@ pub data Where : Type 0 where
   Inside : Where
   Anywhere : Where
 
+-- where the calls stand that a `Calls` of the code names
 abbrev pub where_of : Calls → Where
 where_of calls.Inside = Inside
 where_of calls.All = Anywhere

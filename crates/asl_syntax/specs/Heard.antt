@@ -18,6 +18,7 @@ told (Fixed mark.Star) = Star
 told (Fixed mark.Ampersand) = Ampersand
 told _ = Plain
 
+-- what a token of a function's head tells of the next: it is in the head, too, up to the opening brace
 abbrev pub in_head : Token → Before
 in_head (Fixed mark.OpenBrace) = Plain
 in_head _ = Head
@@ -40,6 +41,7 @@ abbrev pub address_mention : List ℕ → List Token → Mention
 address_mention x (Fixed mark.OpenBracket ∷ ts) = UsesLocal x
 address_mention x _ = UsesGlobal x
 
+-- what a name does where what stands before it says nothing, by the tokens after it
 abbrev pub plain_mention : List ℕ → List Token → Mention
 plain_mention x (Fixed mark.Becomes ∷ ts) = AssignsLocal x
 plain_mention x (Fixed mark.OpenParen ∷ ts) = CallsFunction x (names_to_close ts)

@@ -13,11 +13,13 @@ functions_in [] = 0
 functions_in (Fixed mark.Fn ∷ ts) = suc (functions_in ts)
 functions_in (t ∷ ts) = functions_in ts
 
+-- how many `global` there are
 abbrev pub globals_in : List Token → ℕ
 globals_in [] = 0
 globals_in (Fixed mark.Global ∷ ts) = suc (globals_in ts)
 globals_in (t ∷ ts) = globals_in ts
 
+-- how many `atomic` there are
 abbrev pub atomics_in : List Token → ℕ
 atomics_in [] = 0
 atomics_in (Fixed mark.Atomic ∷ ts) = suc (atomics_in ts)

@@ -54,6 +54,7 @@ value_bytes (CallValue f args) =
 abbrev pub if_head : List ℕ → List ℕ
 if_head x = mark_piece mark.If ++ (piece x ++ mark_piece mark.OpenBrace)
 
+-- what stands before the block of a `while`
 abbrev pub while_head : List ℕ → List ℕ
 while_head x = mark_piece mark.While ++ (piece x ++ mark_piece mark.OpenBrace)
 
@@ -62,6 +63,7 @@ abbrev pub else_open : Block → List ℕ
 else_open NoMore = mark_piece mark.CloseBrace
 else_open (Then s b) = mark_piece mark.CloseBrace ++ (mark_piece mark.Else ++ mark_piece mark.OpenBrace)
 
+-- what stands after the second block of an `if`: a brace where it has statements
 abbrev pub else_close : Block → List ℕ
 else_close NoMore = []
 else_close (Then s b) = mark_piece mark.CloseBrace
@@ -70,10 +72,12 @@ else_close (Then s b) = mark_piece mark.CloseBrace
 abbrev pub assign_bytes : List ℕ → Value → List ℕ
 assign_bytes x v = piece x ++ (mark_piece mark.Becomes ++ (value_bytes v ++ mark_piece mark.Semicolon))
 
+-- a store of the local y to the cell to which x points
 abbrev pub store_bytes : List ℕ → List ℕ → List ℕ
 store_bytes x y =
     mark_piece mark.Star ++ (piece x ++ (mark_piece mark.Becomes ++ (piece y ++ mark_piece mark.Semicolon)))
 
+-- a statement that puts out the local x
 abbrev pub out_bytes : List ℕ → List ℕ
 out_bytes x = mark_piece mark.Out ++ (piece x ++ mark_piece mark.Semicolon)
 
@@ -98,6 +102,7 @@ abbrev pub head_bytes : Function → List ℕ
 head_bytes f =
     mark_piece mark.Fn ++ (piece f.name ++ (mark_piece mark.OpenParen ++ (names_bytes f.parameters ++ (mark_piece mark.CloseParen ++ mark_piece mark.OpenBrace))))
 
+-- the last line of a function that returns the local x, with its closing brace
 abbrev pub last_line_bytes : List ℕ → List ℕ
 last_line_bytes x = mark_piece mark.Return ++ (piece x ++ (mark_piece mark.Semicolon ++ mark_piece mark.CloseBrace))
 

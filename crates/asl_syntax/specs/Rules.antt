@@ -11,9 +11,11 @@ use Rattle.asl_syntax.specs.Mentions.{Mention, DeclaresGlobal, DeclaresFunction,
 abbrev pub Names : Type 0
 Names = List ℕ → Bool
 
+-- no name is known
 abbrev pub no_name : Names
 no_name q = false
 
+-- the known names, and this one
 abbrev pub with_name : List ℕ → Names → Names
 with_name x known q = bytes_eq x q || known q
 
@@ -95,9 +97,11 @@ unknown tree = first_unknown (names_in Globals (mentions tree)) (names_in Functi
 abbrev pub Counts : Type 0
 Counts = List ℕ → Option ℕ
 
+-- of no function it is known how many parameters it has
 abbrev pub no_count : Counts
 no_count q = None
 
+-- the counts, and that of the function x, which has n parameters
 abbrev pub with_count : List ℕ → ℕ → Counts → Counts
 with_count x n counts q = if bytes_eq x q then Some n else counts q
 

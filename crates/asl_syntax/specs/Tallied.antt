@@ -13,18 +13,22 @@ head_after h (Fixed mark.Comma) = h
 head_after h (Name x) = one_more h
 head_after h _ = None
 
+-- how many `fn` there are after one more token, where there were n
 abbrev pub functions_after : ℕ → Token → ℕ
 functions_after n (Fixed mark.Fn) = suc n
 functions_after n _ = n
 
+-- how many `global` there are after one more token, where there were n
 abbrev pub globals_after : ℕ → Token → ℕ
 globals_after n (Fixed mark.Global) = suc n
 globals_after n _ = n
 
+-- how many `atomic` there are after one more token, where there were n
 abbrev pub atomics_after : ℕ → Token → ℕ
 atomics_after n (Fixed mark.Atomic) = suc n
 atomics_after n _ = n
 
+-- how many braces are open after one more token, where there were n
 abbrev pub braces_after : ℕ → Token → ℕ
 braces_after n (Fixed mark.OpenBrace) = suc n
 braces_after n (Fixed mark.CloseBrace) = n - 1
