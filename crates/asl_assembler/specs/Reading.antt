@@ -35,6 +35,7 @@ use Rattle.asl_assembler.specs.Text.{shortened, Spells, IsBadLine}
 
 -- one step after another, where both answer
 infixl 10 ◌>>=◌
+-- nothing where the first step answers nothing, else what the second makes of its answer
 abbrev pub ◌>>=◌ : {A B : Type 0} → Option A → (A → Option B) → Option B
 None >>= f = None
 (Some x) >>= f = f x

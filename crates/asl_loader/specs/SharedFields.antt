@@ -12,6 +12,7 @@ use Rattle.asl_loader.specs.declared.fault.Stop.TheVariants.{Short, Bad}
 
 -- A reader answers a value and the bytes after it, or what stopped it. One continues where the other ended.
 infixl 10 ◌>>=◌
+-- what stopped the first reader, else what the second makes of its answer
 abbrev pub ◌>>=◌ : {A B : Type 0} → Result A Stop → (A → Result B Stop) → Result B Stop
 (Ok x) >>= f = f x
 (Err e) >>= f = Err e
