@@ -24,6 +24,7 @@ pub record LinkContext : Type 0 where
   pub k_limit : ℕ
   pub function : ℕ
 
+-- what links of instructions of the function are read against, from these four parts
 abbrev pub view : Classed → (ℕ → ℕ → Bool) → ℕ → ℕ → LinkContext
 view c stores k_limit function = record { classes = c; stores = stores; k_limit = k_limit; function = function }
 
@@ -50,6 +51,7 @@ abbrev pub settled : LinkContext → Expr → Effect → Option ℕ → List Loc
 settled v e effect None = []
 settled v e effect (Some class) = (if nat_le (length e.path) v.k_limit then lock.Expr e effect else lock.Class class effect) ∷ []
 
+-- the same of a lock: one on a class or on the root stays
 abbrev pub settle : LinkContext → Lock → List Lock
 settle v (lock.Expr e effect) = settled v e effect (class_of v.classes v.function e)
 settle v (lock.Class class effect) = lock.Class class effect ∷ []
@@ -65,10 +67,12 @@ abbrev pub is_class : Option ℕ → Option ℕ → Bool
 is_class (Some class) (Some other) = class == other
 is_class class other = false
 
+-- whether the operation is `*`
 abbrev pub is_star : Op → Bool
 is_star Deref = true
 is_star (Off places) = false
 
+-- whether the path begins with `*`
 abbrev pub begins_with_star : List Op → Bool
 begins_with_star [] = false
 begins_with_star (op ∷ ops) = is_star op
@@ -141,6 +145,7 @@ abbrev pub renamed_on : ℕ → ℕ → Base → List Op → Effect → List Loc
 renamed_on first params (Reg n) path effect = if nat_lt n params then on (Reg (first + n)) path effect ∷ [] else []
 renamed_on first params (Global g) path effect = on (Global g) path effect ∷ []
 
+-- the same of a lock: `first` is the register of the call's first argument, `params` how many parameters the callee has
 abbrev pub renamed : ℕ → ℕ → Lock → List Lock
 renamed first params (lock.Expr e effect) = renamed_on first params e.base e.path effect
 renamed first params (lock.Class class effect) = lock.Class class effect ∷ []

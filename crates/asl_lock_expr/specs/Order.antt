@@ -14,6 +14,7 @@ use Rattle.asl_code.specs.declared.path.Op.{Op}
 use Rattle.asl_code.specs.declared.path.Op.TheVariants.{Deref, Off}
 use Rattle.asl_lock_expr.specs.Links.{IsOne}
 
+-- a read before a write
 abbrev pub effect_code : Effect → ℕ
 effect_code Read = 0
 effect_code Write = 1

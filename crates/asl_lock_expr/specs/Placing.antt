@@ -11,6 +11,7 @@ placed_by Less m ms n later = m ∷ later
 placed_by Equal m ms n later = m ∷ ms
 placed_by Greater m ms n later = n ∷ m ∷ ms
 
+-- the list, which is in order, with the lock at its place; the list as it is, if it has the lock
 abbrev pub placed : List Lock → Lock → List Lock
 placed [] n = n ∷ []
 placed (m ∷ ms) n = placed_by (lock_cmp m n) m ms n (placed ms n)

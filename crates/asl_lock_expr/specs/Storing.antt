@@ -21,6 +21,7 @@ abbrev pub stored_class : Classed → ℕ → Instr → Option ℕ
 stored_class c function (instr.Store address from) = to c function address
 stored_class c function i = None
 
+-- the function that an instruction calls, if it is a call
 abbrev pub called : Instr → Option ℕ
 called (instr.Call to first callee) = Some callee
 called i = None

@@ -28,6 +28,7 @@ set_by (instr.New a n s) = touch.Register a
 set_by (instr.Call a b g) = touch.Register a
 set_by i = touch.Nothing
 
+-- what an instruction stores to: the cell whose address is in a register, or what the callee of a call may store to
 abbrev pub stored_by : Instr → Touch
 stored_by (instr.Store a b) = touch.Store a
 stored_by (instr.Call a b g) = touch.Call g

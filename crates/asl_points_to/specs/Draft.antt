@@ -12,6 +12,7 @@ use Rattle.asl_points_to.specs.Classes.{Classed, some_at, to, inside, members}
 abbrev pub class_in : Classed → ℕ → ℕ
 class_in c m = slice_index (members c) m
 
+-- the class to which a register points, if it points to one
 abbrev pub at : Classed → Place → Option ℕ
 at c p = to c p.function p.register
 
@@ -31,9 +32,11 @@ abbrev pub entry : List (List (Option ℕ)) → Place → Option ℕ
 entry registers p =
     option_and_then (λ (row : List (Option ℕ)). some_at row p.register) (slice_get registers p.function)
 
+-- the member to whose class a register points in the draft, if it points to one
 abbrev pub pointed : ClassDraft → Place → Option ℕ
 pointed s p = entry s.registers.items p
 
+-- the member to whose class the cells of the class of the member `m` point in the draft, if they point to one
 abbrev pub inner : ClassDraft → ℕ → Option ℕ
 inner s m = some_at s.cells.items (first s m)
 
@@ -56,6 +59,7 @@ pub record PointsTo (s : ClassDraft) (p : Place) (m : ℕ) : Type 0 where
   pub there : pointed s p ≡ Some member
   pub same : first s member ≡ first s m
 
+-- the cells of the class of the member `x` point to the class of the member `m`
 pub record CellsPointTo (s : ClassDraft) (x m : ℕ) : Type 0 where
   pub member : ℕ
   pub there : inner s x ≡ Some member
@@ -77,6 +81,7 @@ pub record HasLoaded (s : ClassDraft) (b a : Place) : Type 0 where
   pub source_there : inner s address ≡ Some source
   pub into : PointsTo s a source
 
+-- a store has flowed: the cells of the class to which `a` points, point where `b` does
 pub record HasStored (s : ClassDraft) (a b : Place) : Type 0 where
   pub address : ℕ
   pub source : ℕ
@@ -84,11 +89,13 @@ pub record HasStored (s : ClassDraft) (a b : Place) : Type 0 where
   pub source_there : pointed s b ≡ Some source
   pub into : CellsPointTo s address source
 
+-- a copy has flowed: `a` points where `b` does
 pub record HasCopied (s : ClassDraft) (b a : Place) : Type 0 where
   pub source : ℕ
   pub source_there : pointed s b ≡ Some source
   pub into : PointsTo s a source
 
+-- the flow has flowed: the register points to the member's class, or what is copied, loaded or stored has come to its place
 abbrev pub HasFlowed : ClassDraft → Flow → Type 0
 HasFlowed s (flow.Member m a) = PointsTo s a m
 HasFlowed s (flow.Copy b a) = HasCopied s b a
