@@ -32,6 +32,7 @@ Has members functions (place.Register f r) = (f < functions) × (r < 256)
 abbrev pub IsThere : Draft → Place → Type 0
 IsThere s p = Has s.members s.functions p
 
+-- both places of the flow are there in the draft
 abbrev pub IsThereFlow : Draft → Flow → Type 0
 IsThereFlow s (flow.Copy a b) = IsThere s a × IsThere s b
 IsThereFlow s (flow.Load a b) = IsThere s a × IsThere s b
@@ -52,6 +53,7 @@ label s p = slice_index s.sets (number s.members p)
 abbrev pub pointed : ℕ → ℕ → Option ℕ
 pointed members first = if nat_lt first members then Some first else None
 
+-- the first member of the class to which a place points in the draft, if it points to one; a member points to its own class
 abbrev pub target : Draft → Place → Option ℕ
 target s (place.Member m) = Some (label s (place.Member m))
 target s p = pointed s.members (label s p)
@@ -74,9 +76,11 @@ pub record IsFounded (l : Lowered) (s : Draft) : Type 0 where
 abbrev pub row : Draft → ℕ → List (Option ℕ)
 row s f = map (λ r. target s (place.Register f r)) (range_with_len 0 (length s.sets))
 
+-- for each function, where its registers point in the draft
 abbrev pub rows : Draft → List (List (Option ℕ))
 rows s = map (λ f. row s f) (range_with_len 0 s.functions)
 
+-- all classes that a draft of the program puts together, each by its first member, and without a count of them
 abbrev pub drafted : Lowered → Draft → Classed
 drafted l s =
     record { count = 0; globals = take l.globals s.sets; sites = take l.sites (drop l.globals s.sets); registers = rows s; cells = map (λ m. target s (place.Cells m)) (range_with_len 0 s.members) }
@@ -101,6 +105,7 @@ IsPlain l (place.Member m) = IsMember l m
 IsPlain l (place.Cells m) = ⊥
 IsPlain l (place.Register f r) = (f < length l.functions) × (r < 256)
 
+-- both places of the flow are of the program, and no cells
 abbrev pub HasFlow : Lowered → Flow → Type 0
 HasFlow l (flow.Copy a b) = IsPlain l a × IsPlain l b
 HasFlow l (flow.Load a b) = IsPlain l a × IsPlain l b
@@ -123,6 +128,7 @@ AreThere s owed = (n : ℕ) (o : Owed) → slice_get owed n ≡ Some o → IsThe
 abbrev pub HoldAll : Classed → List Owed → Type 0
 HoldAll c owed = (n : ℕ) (o : Owed) → slice_get owed n ≡ Some o → Holds c o.flow
 
+-- the classes have all of it that is owed at this pc
 abbrev pub HoldAt : Classed → ℕ → List Owed → Type 0
 HoldAt c pc owed = (n : ℕ) (o : Owed) → slice_get owed n ≡ Some o → o.pc ≡ pc → Holds c o.flow
 
@@ -168,10 +174,12 @@ abbrev pub passed_one : ℕ → ℕ → ℕ → ℕ → ℕ → Owed
 passed_one pc f first callee n =
     record { pc = pc; flow = flow.Copy (place.Register f (first + n)) (place.Register callee n) }
 
+-- what is owed for the first arguments, so many of them, of the call at `pc` in the function `f`, which begin at the register `first`
 abbrev pub passed : ℕ → ℕ → ℕ → ℕ → ℕ → List Owed
 passed pc f first callee zero = []
 passed pc f first callee (suc n) = passed pc f first callee n ++ passed_one pc f first callee n ∷ []
 
+-- what is owed for the result of the call at `pc` in the function `f`: `r` is the register that the callee returns, `a` that of the result
 abbrev pub returned_one : ℕ → ℕ → ℕ → ℕ → ℕ → Owed
 returned_one pc f a callee r =
     record { pc = pc; flow = flow.Copy (place.Register callee r) (place.Register f a) }

@@ -51,6 +51,7 @@ abbrev pub IsPassed : Lowered → ℕ → ℕ → ℕ → Place → Place → Ty
 IsPassed l f first callee from into =
     (function : entry.Function) × (n : ℕ) × (slice_get l.functions callee ≡ Some function) × (n < function.params) × (from ≡ place.Register f (first + n)) × (into ≡ place.Register callee n)
 
+-- a `ret` of the callee returns the register `from`, and the call puts that into the register `a` of the function `f`, which is `into`
 abbrev pub IsReturned : Lowered → ℕ → ℕ → ℕ → Place → Place → Type 0
 IsReturned l f a callee from into =
     (pc : ℕ) × (r : ℕ) × InBody l callee pc × (slice_get l.code pc ≡ Some (instr.Return r)) × (from ≡ place.Register callee r) × (into ≡ place.Register f a)
