@@ -52,6 +52,7 @@ pub record AreOthers (l : Lowered) (steps : List Step) (first : ℕ) (others : L
   pub count : length ps ≡ many
   pub each : (n second : ℕ) (p : ToldPair) → slice_get others n ≡ Some second → slice_get ps n ≡ Some p → IsOther l steps first second p
 
+-- the pairs of these members: the first of them with each of the others, and none where there are no members
 abbrev pub ArePairs : Lowered → List Step → List ℕ → List ToldPair → Type 0
 ArePairs l steps [] ps = ps ≡ []
 ArePairs l steps (first ∷ others) ps = AreOthers l steps first others (length others) ps
@@ -81,6 +82,7 @@ pub record AreFactsOf (source : List ℕ) (m : Map) (l : Lowered) (c : Classed) 
   pub count : f.count ≡ c.count
   pub classes : f.classes.items ≡ members c
 
+-- these are the facts of the source: its map, the code of the tree that it spells, and the classes of that code
 pub record AreFacts (source : List ℕ) (f : Facts) : Type 0 where
   pub mapped : IsMapped source f.map
   pub tree : List Item

@@ -30,6 +30,7 @@ address_at (instr.Load a b) from into = beside into b
 address_at (instr.Store a b) from into = beside from a
 address_at i from into = from
 
+-- the same, if there is an instruction; else the place from which the step leads
 abbrev pub address_in : Option Instr → Place → Place → Place
 address_in None from into = from
 address_in (Some i) from into = address_at i from into
@@ -39,9 +40,11 @@ abbrev pub address_by : Lowered → Cause → Place → Place → Place
 address_by l (Instruction pc) from into = address_in (slice_get l.code pc) from into
 address_by l SameClass from into = Member (owner from)
 
+-- the place by which a step of a chain comes to cells
 abbrev pub address_of : Lowered → ToldStep → Place
 address_of l t = address_by l t.step.cause t.step.from t.step.into
 
+-- whether the place is the cells of a class
 abbrev pub is_cells : Place → Bool
 is_cells (Cells m) = true
 is_cells p = false

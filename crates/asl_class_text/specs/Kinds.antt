@@ -19,6 +19,7 @@ abbrev pub params_of : Option entry.Function → ℕ
 params_of None = 0
 params_of (Some f) = f.params
 
+-- how many parameters the function of this number has, and 0 where there is none
 abbrev pub parameters_of : Facts → ℕ → ℕ
 parameters_of f function = params_of (slice_get f.lowering.functions function)
 
@@ -28,12 +29,15 @@ abbrev pub leads_to_parameter : Place → Place → ℕ → ℕ → ℕ → Bool
 leads_to_parameter (Register f r) (Register g p) first callee parameters = g == callee && nat_lt p parameters && r == first + p
 leads_to_parameter from into first callee parameters = false
 
+-- whether a step leads so from an argument of a call of the callee to its parameter
 abbrev pub is_argument : Step → ℕ → ℕ → ℕ → Bool
 is_argument s first callee parameters = leads_to_parameter s.from s.into first callee parameters
 
+-- the kind of a step by a call of the callee: it passes an argument, and else it returns the result
 abbrev pub call_kind : Facts → Step → ℕ → ℕ → Kind
 call_kind f s first callee = if is_argument s first callee (parameters_of f callee) then kind.Passed else kind.Returned
 
+-- the kind of a step by the instruction
 abbrev pub kind_at : Facts → Instr → Step → Kind
 kind_at f (instr.GlobalAddress a g) s = kind.Address
 kind_at f (instr.New a n site) s = kind.Made
@@ -43,6 +47,7 @@ kind_at f (instr.Store a b) s = kind.Stored
 kind_at f (instr.Call a first callee) s = call_kind f s first callee
 kind_at f i s = kind.Copied
 
+-- the same, if there is an instruction; else that of a copy
 abbrev pub kind_by : Facts → Option Instr → Step → Kind
 kind_by f None s = kind.Copied
 kind_by f (Some i) s = kind_at f i s
@@ -55,9 +60,11 @@ kind_of f pc s = kind_by f (slice_get f.lowering.code pc) s
 abbrev pub start_of : ToldStep → Place
 start_of t = if t.back then t.step.into else t.step.from
 
+-- the place to which a chain goes over a step
 abbrev pub end_of : ToldStep → Place
 end_of t = if t.back then t.step.from else t.step.into
 
+-- whether steps of this kind pass an argument to a parameter
 abbrev pub is_passing : Kind → Bool
 is_passing kind.Passed = true
 is_passing k = false
@@ -67,6 +74,7 @@ abbrev pub is_passed_by : Facts → Cause → Step → Bool
 is_passed_by f (Instruction pc) s = is_passing (kind_of f pc s)
 is_passed_by f SameClass s = false
 
+-- whether a step of a chain passes an argument to a parameter
 abbrev pub is_passed : Facts → ToldStep → Bool
 is_passed f t = is_passed_by f t.step.cause t.step
 

@@ -18,6 +18,7 @@ use Rattle.asl_class_text.specs.Grounds.{is_cells, address_of, Meet, IsOf, Tells
 abbrev pub AreJoined : List Step → ℕ → List ℕ → Type 0
 AreJoined steps first others = (n m : ℕ) → slice_get others n ≡ Some m → (first < m) × Joined steps (Member first) (Member m)
 
+-- so it is of the first of these members and all others
 pub record AreAllJoined (steps : List Step) (ms : List ℕ) : Type 0 where
   pub each : (first : ℕ) (others : List ℕ) → ms ≡ first ∷ others → AreJoined steps first others
 
@@ -56,6 +57,7 @@ pub record IsKept (l : Lowered) (before after : ToldStep) (old new : ToldGrounds
   pub same : new ≡ old
   pub told : is_cells (end_of before) ≡ true → address_of l before ≢ address_of l after → Tells old.items.items (address_of l before) (address_of l after)
 
+-- the two steps meet, and their ground is new, but there is no room for it: it is only said that there are more
 pub record IsFull (l : Lowered) (most : ℕ) (before after : ToldStep) (old new : ToldGrounds) : Type 0 where
   pub same : new.items.items ≡ old.items.items
   pub more : new.more ≡ true
@@ -64,6 +66,7 @@ pub record IsFull (l : Lowered) (most : ℕ) (before after : ToldStep) (old new 
   pub two : address_of l before ≢ address_of l after
   pub untold : ¬ Tells old.items.items (address_of l before) (address_of l after)
 
+-- the two steps meet, and their ground is new: it is told behind the others, with a chain that is no circle
 pub record IsPut (l : Lowered) (reasons : List Step) (most : ℕ) (before after : ToldStep) (old new : ToldGrounds) : Type 0 where
   pub ground : ToldGround
   pub grows : new.items.items ≡ old.items.items ++ ground ∷ []
@@ -76,6 +79,7 @@ pub record IsPut (l : Lowered) (reasons : List Step) (most : ℕ) (before after 
   pub chain : IsStraightChain l reasons ground.one ground.other ground.chain.items
   pub untold : ¬ Tells old.items.items ground.one ground.other
 
+-- what becomes of the grounds where a chain goes over two steps, one after the other: one of these three
 abbrev pub IsMet : Lowered → List Step → ℕ → ToldStep → ToldStep → ToldGrounds → ToldGrounds → Type 0
 IsMet l reasons most before after old new = IsKept l before after old new ⊎ (IsFull l most before after old new ⊎ IsPut l reasons most before after old new)
 

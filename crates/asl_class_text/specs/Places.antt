@@ -26,6 +26,7 @@ abbrev pub piece_line : List ℕ → Option Piece → ℕ
 piece_line lines None = 0
 piece_line lines (Some p) = line_of lines p.from
 
+-- the line of the statement of the instruction at the pc, and 0 where there is none
 abbrev pub line_at : Facts → ℕ → ℕ
 line_at f pc = piece_line f.lines.items (slice_get f.map.pieces.items pc)
 
@@ -34,5 +35,6 @@ abbrev pub piece_stretch : List ℕ → Option Piece → List ℕ
 piece_stretch source None = []
 piece_stretch source (Some p) = stretch source p.from p.to
 
+-- the bytes of the statement of the instruction at the pc, without the semicolon
 abbrev pub stretch_at : Facts → ℕ → List ℕ
 stretch_at f pc = piece_stretch f.source.now (slice_get f.map.pieces.items pc)

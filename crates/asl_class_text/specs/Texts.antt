@@ -31,6 +31,7 @@ abbrev pub words_from : Bool → List ℕ → List ℕ
 words_from was_blank [] = []
 words_from was_blank (byte ∷ bytes) = if is_blank byte then words_from true bytes else byte_words was_blank byte ++ words_from false bytes
 
+-- the bytes on one line, with one blank in place of all blanks before a word
 abbrev pub one_line : List ℕ → List ℕ
 one_line bytes = words_from false bytes
 
@@ -58,6 +59,7 @@ site_words f site =
 abbrev pub member_words : Facts → ℕ → List ℕ
 member_words f member = if nat_lt member f.lowering.globals then global_words f member else site_words f (member - f.lowering.globals)
 
+-- the name of the function of this number
 abbrev pub function_words : Facts → ℕ → List ℕ
 function_words f function = name_words (function_name f.map function)
 
@@ -66,6 +68,7 @@ abbrev pub named_count : Option (Vec (List ℕ) Global) → ℕ
 named_count None = 0
 named_count (Some names) = length names.items
 
+-- how many registers of the function of this number have a name
 abbrev pub locals_of : Facts → ℕ → ℕ
 locals_of f function = named_count (slice_get f.map.registers.items function)
 
@@ -83,10 +86,12 @@ abbrev pub unnamed_words : Facts → ℕ → ℕ → List ℕ
 unnamed_words f function register =
     codes "argument " ++ (decimal (argument_number f function register) ++ (codes " of calls in " ++ function_words f function))
 
+-- a register of the function, which has this name or none
 abbrev pub words_of_register : Facts → ℕ → ℕ → Option (List ℕ) → List ℕ
 words_of_register f function register None = unnamed_words f function register
 words_of_register f function register (Some name) = named_words f function register name
 
+-- a register of the function: by its name, and else by the argument that it passes
 abbrev pub register_words : Facts → ℕ → ℕ → List ℕ
 register_words f function register = words_of_register f function register (register_name f.map function register)
 
@@ -94,9 +99,11 @@ register_words f function register = words_of_register f function register (regi
 abbrev pub class_of : Facts → ℕ → ℕ
 class_of f member = unwrap_or (slice_get f.classes.items member) 0
 
+-- the cells of the class of a member, by the number of the class
 abbrev pub cells_words : Facts → ℕ → List ℕ
 cells_words f member = codes "the cells of class " ++ decimal (class_of f member)
 
+-- a place: a member, a register or cells
 abbrev pub place_words : Facts → Place → List ℕ
 place_words f (place.Member m) = member_words f m
 place_words f (place.Register g r) = register_words f g r
@@ -151,12 +158,15 @@ padded width words = words ++ (replicate (width - length words) 32 ++ codes " ")
 unfoldable pub place_columns : Facts → ℕ → List ℕ
 place_columns f pc = codes "      line " ++ (padded 4 (decimal (line_at f pc)) ++ padded 22 (statement_at f pc))
 
+-- the line of a step by the instruction at the pc: where the statement stands, the statement, and what the step says
 abbrev pub way_line : Facts → ℕ → ToldStep → List ℕ
 way_line f pc t = place_columns f pc ++ (way_words f pc t ++ codes "\n")
 
+-- the line of a step that joins what the cells of two members hold
 abbrev pub merge_line : Facts → ToldStep → List ℕ
 merge_line f t = codes "      " ++ (merge_words f t ++ codes "\n")
 
+-- the line of a step by its cause, an instruction or that members share a class
 abbrev pub line_by : Facts → Cause → ToldStep → List ℕ
 line_by f (Instruction pc) t = way_line f pc t
 line_by f SameClass t = merge_line f t
@@ -165,12 +175,15 @@ line_by f SameClass t = merge_line f t
 abbrev pub step_line : Facts → ToldStep → List ℕ
 step_line f t = line_by f t.step.cause t
 
+-- the line before a pair's chain: that the two members are one class
 abbrev pub head_line : Facts → ToldPair → List ℕ
 head_line f p = codes "  " ++ (member_words f p.first ++ (codes " and " ++ (member_words f p.second ++ codes " are one class, since\n")))
 
+-- that a chain goes through parameters, where it does
 abbrev pub parameters_line : Facts → List ToldStep → List ℕ
 parameters_line f ts = if goes_through_parameters f ts then codes "    through parameters, which all calls of a function share\n" else []
 
+-- the line of the statement without which the two members would be two classes, where one is told
 abbrev pub without_line : Facts → Option ℕ → List ℕ
 without_line f None = []
 without_line f (Some pc) = codes "    without line " ++ (decimal (line_at f pc) ++ codes " they would be two\n")
@@ -183,12 +196,15 @@ pair_lines f p = head_line f p ++ (flat_map (step_line f) p.chain.items ++ (para
 abbrev pub ground_head : Facts → List ℕ → ToldGround → List ℕ
 ground_head f indent g = indent ++ (place_words f g.one ++ (codes " and " ++ (place_words f g.other ++ codes " point to one class, since\n")))
 
+-- why the two places of a ground point to one class, after this indent
 abbrev pub ground_lines : Facts → List ℕ → ToldGround → List ℕ
 ground_lines f indent g = ground_head f indent g ++ (flat_map (step_line f) g.chain.items ++ parameters_line f g.chain.items)
 
+-- that there are more grounds, where there are
 abbrev pub more_grounds : List ℕ → Bool → List ℕ
 more_grounds indent more = if more then indent ++ codes "and more such reasons\n" else []
 
+-- all grounds that are told, each after this indent, and that there are more, where there are
 abbrev pub grounds_lines : Facts → List ℕ → ToldGrounds → List ℕ
 grounds_lines f indent gs = flat_map (ground_lines f indent) gs.items.items ++ more_grounds indent gs.more
 
@@ -201,9 +217,11 @@ shown false count = if nat_lt 8 count then 7 else count
 abbrev pub pair_block : Facts → ToldPair → List ℕ
 pair_block f p = codes "  " ++ pair_lines f p
 
+-- how many members are left of which it is not told why they share the class, if some are
 abbrev pub more_line : ℕ → List ℕ
 more_line left = if nat_lt 0 left then codes "    and " ++ (decimal left ++ codes " more (--all tells why)\n") else []
 
+-- all of it below a lock on the class: the pairs, how many members are left, and the grounds
 abbrev pub reasons_block : Facts → Bool → ToldClass → List ℕ
 reasons_block f all t =
     flat_map (pair_block f) t.pairs.items ++ (more_line (length t.members.items - shown all (length t.members.items)) ++ grounds_lines f (codes "    ") t.grounds)
@@ -227,5 +245,6 @@ members_line f all t =
 abbrev pub class_lines : Facts → Bool → ℕ → ToldClass → List ℕ
 class_lines f all number t = (if nat_lt 0 number then codes "\n" else []) ++ (members_line f all t ++ (flat_map (pair_lines f) t.pairs.items ++ grounds_lines f (codes "  ") t.grounds))
 
+-- the text of all classes, with an empty line between two
 abbrev pub classes_text : Facts → Bool → List ToldClass → List ℕ
 classes_text f all ts = numbered (class_lines f all) 0 ts
