@@ -35,5 +35,6 @@ pub record IsEnteredAt (r : Read) (t : Table) (Such : Lock → Type 0) (part pc 
   pub only : (m : Lock) → IsNamed (locks_of t part) numbers m → IsEnteredOf r part pc Such m
   pub all : (m : Lock) → IsEnteredOf r part pc Such m → IsNamed (locks_of t part) numbers m
 
+-- of each of these, its numbers are those of what such locks become at the call at its pc, in its region
 abbrev pub AreEntered : Read → Table → (Lock → Type 0) → List Entered → Type 0
 AreEntered r t Such known = (k : ℕ) (e : Entered) → slice_get known k ≡ Some e → IsEnteredAt r t Such e.part e.pc e.numbers

@@ -32,6 +32,7 @@ pub record Read : Type 0 where
   pub calls : List (List ℕ)
   pub regions : List (List ℕ)
 
+-- a `FlowAnalysis` of the code as such a program
 abbrev pub read : FlowAnalysis → Read
 read p = record {
   lowered = p.lowering.now;
@@ -53,6 +54,7 @@ pub record IsRead (r : Read) : Type 0 where
   pub calls : HasRows r.calls (IsCall r.lowered) (length r.lowered.code)
   pub regions : HasRows r.regions (HasCall r.lowered r.spans) (length r.spans)
 
+-- what links of instructions of the function are read against
 abbrev pub seen : Read → ℕ → LinkContext
 seen r function = view r.classes r.stores r.k_limit function
 
@@ -106,6 +108,7 @@ At part pc these p q m = (p ≡ part) × (q ≡ pc) × these m
 abbrev pub IsSeed : Read → ℕ → ℕ → Lock → Type 0
 IsSeed r p q m = IsAtPoint r p q × WithFronts (IsAccessed r p q) m
 
+-- the same in this region: an access at the pc `q` of the region `p`, which is `part`, needs the lock
 abbrev pub IsSeedIn : Read → ℕ → ℕ → ℕ → Lock → Type 0
 IsSeedIn r part p q m = (p ≡ part) × IsSeed r p q m
 
@@ -175,6 +178,7 @@ pub record IsChosen (locks : List Lock) (set : List Bool) (Done : Lock → Type 
 abbrev pub IsLinkedAt : Read → Table → ℕ → ℕ → Lock → Type 0
 IsLinkedAt r t part pc d = HasAll t (At part pc (IsLinkedOf r part pc (λ l. d ≡ l)))
 
+-- what the lock becomes over each instruction of the region from which control continues to the pc is found at that instruction
 abbrev pub IsLinkedBack : Read → Table → ℕ → ℕ → Lock → Type 0
 IsLinkedBack r t part pc d = HasAll t (IsBack r part pc (λ l. d ≡ l))
 

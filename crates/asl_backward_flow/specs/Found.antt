@@ -26,6 +26,7 @@ pub record Table : Type 0 where
 abbrev pub open_of : RegionNeeds → List (List Bool)
 open_of p = open_from p.fresh 0 p.needs.items
 
+-- what the code has of these regions, and the points at which something is not followed yet, as a table
 abbrev pub table_of : List RegionNeeds → List (ℕ × ℕ) → Table
 table_of parts list = record {
   regions = map (λ (p : RegionNeeds). p.region) parts;
@@ -36,6 +37,7 @@ table_of parts list = record {
   list = list;
 }
 
+-- all that was found so far, as a table
 abbrev pub table : Found → Table
 table f = table_of f.parts.items f.list
 
@@ -55,12 +57,15 @@ list_at lists k = unwrap_or (slice_get lists k) []
 abbrev pub locks_of : Table → ℕ → List Lock
 locks_of t part = list_at t.locks part
 
+-- the first pc of a region, and 0 where there is no such region
 abbrev pub first_of : Table → ℕ → ℕ
 first_of t part = unwrap_or (slice_get t.firsts part) 0
 
+-- for each point of a region the set of the numbers of the locks that are needed there
 abbrev pub sets_of : Table → ℕ → List (List Bool)
 sets_of t part = list_at t.sets part
 
+-- for each point of a region the set of the numbers that are not followed there yet
 abbrev pub fresh_of : Table → ℕ → List (List Bool)
 fresh_of t part = list_at t.fresh part
 
@@ -84,6 +89,7 @@ WaitsOrIsOne t point set part pc number = Waits t part pc number ⊎ (((part, pc
 abbrev pub NoneWaits : ℕ → ℕ → ℕ → Type 0
 NoneWaits part pc number = ⊥
 
+-- it is found that the region needs the lock at the pc
 abbrev pub HasFact : Table → ℕ → ℕ → Lock → Type 0
 HasFact t part pc lock = (n : ℕ) × Has t part pc n × (slice_get (locks_of t part) n ≡ Some lock)
 
@@ -95,9 +101,11 @@ IsName t part lock = IsAt (locks_of t part) lock
 abbrev pub HasNumber : List Lock → (ℕ → Type 0) → Lock → Type 0
 HasNumber locks These lock = (n : ℕ) × These n × (slice_get locks n ≡ Some lock)
 
+-- the lock has one of the numbers in the set
 abbrev pub IsNamed : List Lock → List Bool → Lock → Type 0
 IsNamed locks set = HasNumber locks (IsIn set)
 
+-- the lock has one of the numbers in the list
 abbrev pub IsListed : List Lock → List ℕ → Lock → Type 0
 IsListed locks numbers = HasNumber locks (Contains numbers)
 
@@ -160,6 +168,7 @@ unfoldable pub free : ℕ → List Bool → ℕ
 free zero set = 0
 free (suc n) set = (if unwrap_or (slice_get set n) false then 0 else 1) + free n set
 
+-- how many numbers below 4,096 are not in a set, for all these sets together
 abbrev pub free_in : List (List Bool) → ℕ
 free_in sets = sum_by (free 4096) sets
 

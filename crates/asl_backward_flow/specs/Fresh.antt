@@ -21,6 +21,7 @@ was_followed f k = unwrap_or (slice_get f.followed k) false
 abbrev pub open_at : Fresh → ℕ → List Bool → List Bool
 open_at f k set = if was_followed f k then kept_at f k else set
 
+-- what is not followed yet at each place from `k` on, where these sets are found there
 abbrev pub open_from : Fresh → ℕ → List (List Bool) → List (List Bool)
 open_from f k [] = []
 open_from f k (set ∷ sets) = open_at f k set ∷ open_from f (k + 1) sets

@@ -26,6 +26,7 @@ goes_to_next (instr.Jump target) = false
 goes_to_next (instr.Return from) = false
 goes_to_next i = true
 
+-- the pc to which an instruction may jump, if it is a jump
 abbrev pub jump_target : Instr → Option ℕ
 jump_target (instr.Jump target) = Some target
 jump_target (instr.JumpIfZero test target) = Some target

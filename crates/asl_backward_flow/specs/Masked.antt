@@ -15,6 +15,7 @@ use Rattle.asl_backward_flow.specs.Follows.{Read, seen, StaysAt}
 abbrev pub IsMask : LinkContext → List Lock → Mask → Type 0
 IsMask v locks x = (n : ℕ) → n < x.below → (m : Lock) × (slice_get locks n ≡ Some m) × (IsIn x.touched n ⊎ IsClear v x.touch m)
 
+-- each of these is such a mask of the locks
 abbrev pub AreMasks : LinkContext → List Lock → List Mask → Type 0
 AreMasks v locks masks = (k : ℕ) (x : Mask) → slice_get masks k ≡ Some x → IsMask v locks x
 

@@ -15,6 +15,7 @@ abbrev pub needs_from : ℕ → List (List Bool) → List (ℕ × ℕ)
 needs_from first [] = []
 needs_from first (set ∷ sets) = map (λ n. (first, n)) (members_of set) ++ needs_from (first + 1) sets
 
+-- what the code found for a region, with its sets as pairs of a pc and a lock's number
 abbrev pub part : code.RegionNeeds → RegionNeeds
 part p = record { region = region_of p.region; locks = p.locks.keys; needs = needs_from p.first p.needs.items }
 

@@ -22,6 +22,7 @@ AreOfRegions l spans = (n : ℕ) (s : Span) → slice_get spans n ≡ Some s →
 abbrev pub HasSection : List Span → ℕ → Type 0
 HasSection spans n = (k : ℕ) × (s : Span) × (slice_get spans k ≡ Some s) × (s.region ≡ variant.Section n)
 
+-- one of the spans is of the body of the function of this number
 abbrev pub HasBody : List Span → ℕ → Type 0
 HasBody spans g = (k : ℕ) × (s : Span) × (slice_get spans k ≡ Some s) × (s.region ≡ variant.Body g)
 
