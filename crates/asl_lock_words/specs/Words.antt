@@ -25,6 +25,7 @@ abbrev pub base_name : Map → ℕ → Base → List ℕ
 base_name m function (Reg register) = name_or (register_name m function register) (codes "r") register
 base_name m function (Global global) = name_or (slice_get m.globals.items global) (codes "g") global
 
+-- the name of the function of this number, or `f` and the number
 abbrev pub function_words : Map → ℕ → List ℕ
 function_words m function = name_or (function_name m function) (codes "f") function
 
@@ -37,10 +38,12 @@ local_words m function name =
 abbrev pub unnamed_words : Map → ℕ → ℕ → List ℕ
 unnamed_words m function register = function_words m function ++ (codes "." ++ decimal register)
 
+-- the words for a register of the function, which has this name or none
 abbrev pub words_of_register : Map → ℕ → ℕ → Option (List ℕ) → List ℕ
 words_of_register m function register None = unnamed_words m function register
 words_of_register m function register (Some name) = local_words m function name
 
+-- the words for a register of the function, by its name if it has one, else by its number
 abbrev pub register_words : Map → ℕ → ℕ → List ℕ
 register_words m function register = words_of_register m function register (register_name m function register)
 
@@ -54,6 +57,7 @@ pub record Spelled : Type 0 where
   pub shape : Shape
   pub text : List ℕ
 
+-- a `Pointer` of the code as such a pointer in words
 abbrev pub pointer_of : Pointer → Spelled
 pointer_of p = record { shape = p.shape; text = string_bytes p.text }
 
@@ -62,6 +66,7 @@ abbrev pub base_shape : Base → Shape
 base_shape (Reg register) = Plain
 base_shape (Global global) = Cell
 
+-- the pointer at which an expression of the function begins, in words
 abbrev pub base_pointer : Map → ℕ → Base → Spelled
 base_pointer m function base = record { shape = base_shape base; text = base_words m function base }
 
@@ -88,6 +93,7 @@ abbrev pub after_op : Spelled → Op → Spelled
 after_op p (Off cells) = record { shape = Cell; text = past p.shape p.text cells }
 after_op p Deref = record { shape = loaded p.shape; text = cell_of p.shape p.text }
 
+-- the pointer after all operations of a path, in order
 abbrev pub after_ops : Spelled → List Op → Spelled
 after_ops p [] = p
 after_ops p (op ∷ ops) = after_ops (after_op p op) ops

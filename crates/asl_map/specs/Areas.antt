@@ -12,6 +12,7 @@ use Rattle.asl_map.specs.declared.text_piece.Piece.{Piece}
 abbrev pub from_at : List Piece → ℕ → ℕ
 from_at pieces pc = option_map_or (λ (x : Piece). x.from) (slice_get pieces pc) 0
 
+-- the place after the piece of the instruction at the pc, and 0 where there is none
 abbrev pub to_at : List Piece → ℕ → ℕ
 to_at pieces pc = option_map_or (λ (x : Piece). x.to) (slice_get pieces pc) 0
 

@@ -10,6 +10,7 @@ use Rattle.asl_map.specs.Reached.{IsReached}
 use Rattle.asl_map.specs.Mapped.{HasNames, HasMembers}
 use Rattle.asl_map.specs.Walked.{items_pieces, items_named}
 
+-- the map has the names of the tree, which functions are reached, the classes of the members, and where all of it stands in the source
 pub record IsMade (source : List ℕ) (tree : List Item) (l : Lowered) (c : Classed) (m : Map) : Type 0 where
   pub names : HasNames tree m
   pub reached : (function : ℕ) → (slice_get m.reached function ≡ Some true) ↔ IsReached l function

@@ -27,6 +27,7 @@ kind_name kind.While = codes "while"
 kind_name kind.Atomic = codes "atomic"
 kind_name kind.Return = codes "return"
 
+-- the line of the function of this number: its name, its first place, and the place after its last
 abbrev pub function_line : ℕ → Named → List ℕ
 function_line n f =
     codes "function " ++ decimal n ++ codes " " ++ encode_utf8_all f.name ++ codes " " ++ decimal f.from ++ codes " " ++ decimal f.to ++ 10 ∷ []
@@ -44,9 +45,11 @@ abbrev pub register_line : ℕ → ℕ → List ℕ → List ℕ
 register_line f n name =
     codes "register " ++ decimal f ++ codes " " ++ decimal n ++ codes " " ++ encode_utf8_all name ++ 10 ∷ []
 
+-- the lines of the registers with a name, for the function of this number
 abbrev pub registers_text : ℕ → Vec (List ℕ) Global → List ℕ
 registers_text f names = numbered (register_line f) 0 names.items
 
+-- the line of the global of this number: its name
 abbrev pub global_line : ℕ → List ℕ → List ℕ
 global_line n name = codes "global " ++ decimal n ++ codes " " ++ encode_utf8_all name ++ 10 ∷ []
 
@@ -55,6 +58,7 @@ abbrev pub global_member : ℕ → ℕ → ℕ → List ℕ
 global_member class n of =
     if of == class then codes "class " ++ decimal class ++ codes " global " ++ decimal n ++ 10 ∷ [] else []
 
+-- the line of the site `n`, if its class `of` is this class; for another there is none
 abbrev pub site_member : ℕ → ℕ → ℕ → List ℕ
 site_member class n of =
     if of == class then codes "class " ++ decimal class ++ codes " site " ++ decimal n ++ 10 ∷ [] else []
@@ -64,14 +68,17 @@ abbrev pub members_text : Map → ℕ → List ℕ
 members_text m class =
     numbered (global_member class) 0 m.global_classes.items ++ numbered (site_member class) 0 m.site_classes.items
 
+-- the line of the section of this number: its function, its first place, and the place after its last
 abbrev pub section_line : ℕ → Area → List ℕ
 section_line n a =
     codes "section " ++ decimal n ++ codes " " ++ decimal a.function ++ codes " " ++ decimal a.from ++ codes " " ++ decimal a.to ++ 10 ∷ []
 
+-- the line of the site of this number: its function, its first place, and the place after its last
 abbrev pub site_line : ℕ → Area → List ℕ
 site_line n a =
     codes "site " ++ decimal n ++ codes " " ++ decimal a.function ++ codes " " ++ decimal a.from ++ codes " " ++ decimal a.to ++ 10 ∷ []
 
+-- the line of the instruction at the pc: the first place of its piece, the place after its last, and its kind
 abbrev pub place_line : ℕ → Piece → List ℕ
 place_line pc p =
     codes "place " ++ decimal pc ++ codes " " ++ decimal p.from ++ codes " " ++ decimal p.to ++ codes " " ++ kind_name p.kind ++ 10 ∷ []

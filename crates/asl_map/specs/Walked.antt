@@ -60,6 +60,7 @@ abbrev mutual
 abbrev pub return_rest : Function → List Spot → List Spot
 return_rest f ss = block_rest f.body (past_end ss)
 
+-- the tokens after the last brace of a function
 abbrev pub function_rest : Function → List Spot → List Spot
 function_rest f ss = drop 1 (past_end (return_rest f ss))
 
@@ -67,6 +68,7 @@ function_rest f ss = drop 1 (past_end (return_rest f ss))
 abbrev pub function_pieces : Function → List Spot → List Piece
 function_pieces f ss = block_pieces f.body (past_end ss) ++ piece_of kind.Return (return_rest f ss) ∷ []
 
+-- a function's name, the place of its `fn`, and the place after its last brace
 abbrev pub named_of : Function → List Spot → Named
 named_of f ss =
     record { name = f.name; from = first_place ss; to = first_place (past_end (return_rest f ss)) + 1 }
@@ -77,11 +79,13 @@ items_rest [] ss = ss
 items_rest (GlobalItem x ∷ is) ss = items_rest is (past_end ss)
 items_rest (FunctionItem f ∷ is) ss = items_rest is (function_rest f ss)
 
+-- the pieces of all instructions of a program
 abbrev pub items_pieces : List Item → List Spot → List Piece
 items_pieces [] ss = []
 items_pieces (GlobalItem x ∷ is) ss = items_pieces is (past_end ss)
 items_pieces (FunctionItem f ∷ is) ss = function_pieces f ss ++ items_pieces is (function_rest f ss)
 
+-- where the functions of a program stand, with their names
 abbrev pub items_named : List Item → List Spot → List Named
 items_named [] ss = []
 items_named (GlobalItem x ∷ is) ss = items_named is (past_end ss)

@@ -27,9 +27,11 @@ section_lines f function = flat_map (section_line f function) f.map.sections.ite
 abbrev pub listed_line : ℕ → ℕ → List ℕ
 listed_line number line = (if nat_lt 0 number then codes ", line " else codes ": line ") ++ decimal line
 
+-- whether a function has sections, by the lines of these
 abbrev pub sections_head : List ℕ → List ℕ
 sections_head lines = if nat_lt 0 (length lines) then codes "with sections" else codes "without a section"
 
+-- the same, and the lines
 abbrev pub sections_words : List ℕ → List ℕ
 sections_words lines = sections_head lines ++ numbered listed_line 0 lines
 
@@ -45,6 +47,7 @@ function_line f number n = function_columns f n ++ (sections_words (section_line
 abbrev pub unreached_line : Facts → ℕ → Named → List ℕ
 unreached_line f number n = if is_reached f.map number then [] else function_line f number n
 
+-- the lines of all functions that `main` does not reach
 abbrev pub unreached_lines : Facts → List ℕ
 unreached_lines f = numbered (unreached_line f) 0 f.map.functions.items
 
@@ -63,6 +66,7 @@ access_line f pc i = place_columns f pc ++ (nowhere_words f pc (address_of i) ++
 abbrev pub classless_line : Facts → Classed → ℕ → Instr → List ℕ
 classless_line f c pc i = if has_no_class f.map f.lowering c pc i then access_line f pc i else []
 
+-- the lines of all accesses that no class has
 abbrev pub classless_lines : Facts → Classed → List ℕ
 classless_lines f c = numbered (classless_line f c) 0 f.lowering.code
 
@@ -78,9 +82,11 @@ abbrev pub joined : List ℕ → List ℕ → List ℕ
 joined [] second = second
 joined (byte ∷ bytes) second = (byte ∷ bytes) ++ headed (codes "\n") second
 
+-- the heading of the functions that `main` does not reach
 abbrev pub unreached_heading : List ℕ
 unreached_heading = codes "missing in the text: calls of these functions, which main does not reach\n"
 
+-- the heading of the accesses that no class has
 abbrev pub classless_heading : List ℕ
 classless_heading = codes "missing in the text: what fills the pointers of these accesses, which have no lock\n"
 
