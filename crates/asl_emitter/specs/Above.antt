@@ -20,13 +20,16 @@ abbrev pub stronger_class : ℕ → Effect → List Lock
 stronger_class class Write = []
 stronger_class class Read = lock.Class class Write ∷ []
 
+-- the lock on the expression that is stronger than one with this effect
 abbrev pub stronger_expr : Expr → Effect → List Lock
 stronger_expr e Write = []
 stronger_expr e Read = lock.Expr e Write ∷ []
 
+-- the locks that absorb one on the expression of the function `f` with this effect: those on its class, and the stronger one on itself
 abbrev pub above_expr : Classed → ℕ → Expr → Effect → List Lock
 above_expr c f e effect = classes_above (class_of c f e) effect ++ stronger_expr e effect
 
+-- the locks that absorb this one in the function `f`; none absorbs one on the root
 abbrev pub above : Classed → ℕ → Lock → List Lock
 above c f (lock.Root effect) = []
 above c f (lock.Class class effect) = stronger_class class effect

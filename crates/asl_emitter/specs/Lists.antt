@@ -51,6 +51,7 @@ abbrev pub stronger : Effect → Effect → Effect
 stronger Write other = Write
 stronger Read other = other
 
+-- the strongest effect of a list of locks: to write where one of them is for writing, else to read
 abbrev pub strongest : List Lock → Effect
 strongest [] = Read
 strongest (a ∷ rest) = stronger (effect_of a) (strongest rest)

@@ -98,6 +98,7 @@ FollowsBy Linked x before s = IsLink x before s
 FollowsBy Entered x before s = IsEntry x before s
 FollowsBy Dereferenced x before s = IsFront x before s
 
+-- the step `s` follows from the step before it for the reason that it names
 abbrev pub Follows : Read → Step → Step → Type 0
 Follows x before s = FollowsBy s.why x before s
 

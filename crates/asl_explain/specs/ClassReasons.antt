@@ -54,11 +54,13 @@ again_line t =
 abbrev pub block_of : Facts → Bool → ℕ → ClassTold → List ℕ
 block_of f all section t = if t.section == section then reasons_block f all t.told else again_line t
 
+-- the same of what is known of a class, which may be missing, or may be that nothing is told: then no words
 abbrev pub told_at : Facts → Bool → ℕ → Option (Option ClassTold) → List ℕ
 told_at f all section None = []
 told_at f all section (Some None) = []
 told_at f all section (Some (Some t)) = block_of f all section t
 
+-- the same of the class of this number, by what is known of each class
 abbrev pub class_block : Facts → Bool → List (Option ClassTold) → ℕ → ℕ → List ℕ
 class_block f all ts section class = told_at f all section (slice_get ts class)
 

@@ -34,6 +34,7 @@ pub record IsNeed (x : Read) (section : ℕ) (is : Section) (d : Need) : Type 0 
   pub needed : Needs x (Inside section) (suc is.acquire) d.lock
   pub chains : AreChains x (Inside section) (suc is.acquire) d.lock d.chains
 
+-- each of these is such a need of the section
 abbrev pub AreNeeds : Read → ℕ → Section → List Need → Type 0
 AreNeeds x section is needs = (n : ℕ) (d : Need) → slice_get needs n ≡ Some d → IsNeed x section is d
 

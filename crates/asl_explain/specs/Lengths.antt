@@ -25,6 +25,7 @@ IsRegionBelow parts limit r = (pc : ℕ) (lock : Lock) → IsTold parts r pc loc
 abbrev pub AreSectionsBelow : List RegionNeeds → ℕ → ℕ → Type 0
 AreSectionsBelow parts limit so_many = (n : ℕ) → n < so_many → IsRegionBelow parts limit (Inside n)
 
+-- each expression that the parts tell of the bodies of the first functions, so many of them, has fewer operations than the limit
 abbrev pub AreBodiesBelow : List RegionNeeds → ℕ → ℕ → Type 0
 AreBodiesBelow parts limit so_many = (n : ℕ) → n < so_many → IsRegionBelow parts limit (Body n)
 

@@ -28,6 +28,7 @@ pub record Tells (pieces : List (List ℕ)) (old new : List ℕ) : Type 0 where
 abbrev pub pieces_of : ClassTeller → ℕ → Listed → List (List ℕ)
 pieces_of t section d = lock_pieces t.reasoned.now.known.facts t.all t.told.now section d
 
+-- the pieces of the section of this number, whose list has these locks
 abbrev pub section_pieces : ClassTeller → ℕ → List Listed → List (List ℕ)
 section_pieces t section listed = told_of t.reasoned.now.known.facts t.all t.told.now section listed
 

@@ -21,6 +21,7 @@ StandIn (piece ∷ pieces) text = (before : List ℕ) × (behind : List ℕ) × 
 abbrev pub section_words : ℕ → List ℕ
 section_words section = codes "section " ++ decimal section ++ codes ", "
 
+-- how many locks the list of a section has
 abbrev pub count_words : ℕ → List ℕ
 count_words count = codes ": takes " ++ decimal count ++ codes " lock"
 
@@ -28,6 +29,7 @@ count_words count = codes ": takes " ++ decimal count ++ codes " lock"
 abbrev pub lock_pieces : Facts → Bool → List (Option ClassTold) → ℕ → Listed → List (List ℕ)
 lock_pieces f all ts section d = spell d.lock ∷ lock_block f all ts section d.lock ∷ []
 
+-- the pieces that are told of a section: its number, how many locks its list has, and those of each lock
 abbrev pub told_of : Facts → Bool → List (Option ClassTold) → ℕ → List Listed → List (List ℕ)
 told_of f all ts section listed =
     section_words section ∷ count_words (length listed) ∷ flat_map (lock_pieces f all ts section) listed
