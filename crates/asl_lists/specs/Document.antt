@@ -30,6 +30,7 @@ use Rattle.asl_lists.specs.Places.{count, line_of, name_words, function_words, a
 
 -- ---- locks
 
+-- the kind of a lock in a word: on an expression, on a class or on the root
 abbrev pub kind_word : Lock → List ℕ
 kind_word (lock.Expr e effect) = codes "expr"
 kind_word (lock.Class class effect) = codes "class"
@@ -42,11 +43,13 @@ base_data f function (Reg register) =
 base_data f function (Global global) =
     object (member (codes "global") (count global) (member (codes "name") (string (base_name f.map function (Global global))) no_members))
 
+-- where the expression of a lock begins; `null` for a lock on a class or on the root
 abbrev pub lock_base : Facts → ℕ → Lock → Data
 lock_base f function (lock.Expr e effect) = base_data f function e.base
 lock_base f function (lock.Class class effect) = null
 lock_base f function (lock.Root effect) = null
 
+-- the number of a class, and `null` where there is none
 abbrev pub class_or_null : Option ℕ → Data
 class_or_null None = null
 class_or_null (Some class) = count class
@@ -62,6 +65,7 @@ abbrev pub op_data : Op → Data
 op_data Deref = string (codes "*")
 op_data (Off cells) = count cells
 
+-- the operations of a lock's expression; none for a lock on a class or on the root
 abbrev pub lock_path : Lock → Data
 lock_path (lock.Expr e effect) = array (items_of (map op_data e.path))
 lock_path (lock.Class class effect) = array (items_of [])
@@ -72,6 +76,7 @@ abbrev pub first_data : Facts → Option Step → List Data
 first_data f None = []
 first_data f (Some s) = area_data f (area_at f s.pc) ∷ []
 
+-- the statement that a chain begins with, as a list: none for a chain without steps
 abbrev pub statement_data : Facts → Chain → List Data
 statement_data f c = first_data f (slice_get c.steps 0)
 
@@ -82,6 +87,7 @@ need_data f function d = object
     (member (codes "text") (string (spell d.lock))
     (member (codes "words") (string (lock_words f.map function d.lock)) no_members)))
 
+-- a lock of a section's list in the function of this number, with the needs that it covers
 abbrev pub lock_data : Facts → ℕ → Listed → Data
 lock_data f function d = object
     (member (codes "base") (lock_base f function d.lock)
@@ -99,6 +105,7 @@ lock_data f function d = object
 abbrev pub global_data : Facts → ℕ → ℕ → ℕ → List Data
 global_data f class global of = if of == class then string (name_words (slice_get f.map.globals.items global)) ∷ [] else []
 
+-- where something stands, as a list: none where that is not known
 abbrev pub area_list : Facts → Option Area → List Data
 area_list f None = []
 area_list f (Some a) = area_data f a ∷ []
@@ -107,6 +114,7 @@ area_list f (Some a) = area_data f a ∷ []
 abbrev pub site_data : Facts → ℕ → ℕ → ℕ → List Data
 site_data f class site of = if of == class then area_list f (slice_get f.map.sites.items site) else []
 
+-- the class of this number with its members: the names of its globals, and where its sites stand
 abbrev pub class_data : Facts → ℕ → Data
 class_data f class = object
     (member (codes "class") (count class)
@@ -120,6 +128,7 @@ classes_from f first (suc many) = class_data f first ∷ classes_from f (suc fir
 
 -- ---- functions
 
+-- the function of this number: its name, where it stands, and whether `main` reaches it
 abbrev pub function_entry : Facts → ℕ → Named → Data
 function_entry f number n = object
     (member (codes "from") (count n.from)
@@ -128,11 +137,13 @@ function_entry f number n = object
     (member (codes "reached") (boolean (is_reached f.map number))
     (member (codes "to") (count n.to) no_members)))))
 
+-- the same, as a list of one
 abbrev pub function_data : Facts → ℕ → Named → List Data
 function_data f number n = function_entry f number n ∷ []
 
 -- ---- sections
 
+-- the operation follows the address in the cell
 abbrev pub is_star : Op → Bool
 is_star Deref = true
 is_star (Off cells) = false
@@ -143,10 +154,12 @@ reads_cell (lock.Expr e effect) = list_any is_star e.path
 reads_cell (lock.Class class effect) = false
 reads_cell (lock.Root effect) = false
 
+-- the effect is that of a write
 abbrev pub is_write : Effect → Bool
 is_write Read = false
 is_write Write = true
 
+-- where the section of this number stands
 abbrev pub section_area : Facts → ℕ → Area
 section_area f section = unwrap_or (slice_get f.map.sections.items section) (record { function = 0; from = 0; to = 0 })
 
@@ -161,6 +174,7 @@ section_at f a list = object
     (member (codes "to") (count a.to)
     (member (codes "writes") (boolean (list_any (λ (d : Listed). is_write (effect_of d.lock)) list)) no_members)))))))
 
+-- the section of this number with its list, as a list of one
 abbrev pub section_data : Facts → ℕ → List Listed → List Data
 section_data f section list = section_at f (section_area f section) list ∷ []
 
@@ -184,9 +198,11 @@ unreached_data f number n =
 abbrev pub classless_at : Facts → Area → Data
 classless_at f a = warning_data f (codes "no class") (function_words f.map a.function) a.from a.to
 
+-- what is warned of the instruction at the pc, as a list: of an access that no class has, and of another nothing
 abbrev pub classless_data : Facts → ℕ → Instr → List Data
 classless_data f pc i = if has_no_class f.map f.lowering f.classes pc i then classless_at f (area_at f pc) ∷ [] else []
 
+-- all warnings: the functions that `main` does not reach, then the accesses that no class has
 abbrev pub warnings_data : Facts → List Data
 warnings_data f = numbered (unreached_data f) 0 f.map.functions.items ++ numbered (classless_data f) 0 f.lowering.code
 

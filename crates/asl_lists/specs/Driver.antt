@@ -13,6 +13,7 @@ objects (suc (suc zero)) = codes "  a = new 255;\n  b = new 255;\n"
 objects (suc (suc (suc zero))) = codes "  a = new 255;\n  b = new 255;\n  c = new 255;\n"
 objects n = codes "  a = new 255;\n  b = new 255;\n  c = new 255;\n  d = new 255;\n"
 
+-- the arguments of a call of a function with so many parameters, four at most: the new objects
 abbrev pub arguments : ℕ → List ℕ
 arguments zero = []
 arguments (suc zero) = codes "a"

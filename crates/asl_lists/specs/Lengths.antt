@@ -26,5 +26,6 @@ abbrev pub IsLast : Option ℕ → ℕ → ExplainFault → Type 0
 IsLast (Some k) n fault = Unit {0}
 IsLast None n fault = IsTooMany fault → n ≡ 0
 
+-- the source is refused so with paths of the length that is asked for, or else of the last length that is tried, from 8 down to 0
 abbrev pub IsRefusedAt : List ℕ → Option ℕ → ExplainFault → Type 0
 IsRefusedAt source k fault = (n : ℕ) × IsLength source k n × IsRefusedExplanation source n fault × IsLast k n fault

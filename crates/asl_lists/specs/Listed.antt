@@ -59,6 +59,7 @@ HasRefusedEntries source k names (Refused cause) =
     (entries : List Entry) × AreEntries names entries × IsRefusedAt (source ++ driver entries) k cause
 HasRefusedEntries source k names OutOfMemory = Unit {0}
 
+-- what a refusal says of the source, with what calls its entries where some are named
 abbrev pub IsRefusedLists : List ℕ → Option ℕ → List (List ℕ) → ListsFault → Type 0
 IsRefusedLists source k [] fault = IsRefusedWhole source k fault
 IsRefusedLists source k (name ∷ names) fault = HasRefusedEntries source k (name ∷ names) fault

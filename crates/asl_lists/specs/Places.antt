@@ -21,6 +21,7 @@ abbrev pub name_words : Option (List ℕ) → List ℕ
 name_words None = []
 name_words (Some name) = encode_utf8_all name
 
+-- the name of the function of this number
 abbrev pub function_words : Map → ℕ → List ℕ
 function_words m function = name_words (function_name m function)
 
@@ -37,5 +38,6 @@ abbrev pub piece_area : ℕ → Option Piece → Area
 piece_area function None = record { function = function; from = 0; to = 0 }
 piece_area function (Some p) = record { function = function; from = p.from; to = p.to }
 
+-- where the statement of the instruction at the pc stands, and in which function
 abbrev pub area_at : Facts → ℕ → Area
 area_at f pc = piece_area (owner_at f.lowering pc) (slice_get f.map.pieces.items pc)

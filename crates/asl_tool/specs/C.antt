@@ -43,6 +43,7 @@ AreLocals registers locals =
 abbrev pub replaced : Replacement → List ℕ
 replaced r = string_bytes r.function
 
+-- the name of the C function that is called in its place
 abbrev pub c_function : Replacement → List ℕ
 c_function r = string_bytes r.name
 
@@ -116,6 +117,7 @@ abbrev pub IsRefusedEntries : List ℕ → Option ℕ → List (List ℕ) → Li
 IsRefusedEntries source k names externs f =
     (f ≡ fault.OutOfMemory) ⊎ ((es : List Entry) × AreEntries names es × IsRefusedWhole (source ++ driver es) k externs f)
 
+-- what a refusal says of the source, with what calls its entries where some are named
 abbrev pub IsRefusedPrinting : List ℕ → Option ℕ → List (List ℕ) → List Replacement → CommandFault → Type 0
 IsRefusedPrinting source k [] externs f = IsRefusedWhole source k externs f
 IsRefusedPrinting source k (name ∷ names) externs f = IsRefusedEntries source k (name ∷ names) externs f
