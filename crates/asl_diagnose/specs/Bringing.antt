@@ -14,6 +14,7 @@ abbrev pub one_text : List ℕ → Bringers → List ℕ
 one_text text b =
     codes "line " ++ line_at text b.from ++ codes " " ++ quoted (drop b.from (take (b.to - 1) text)) ++ codes " brings most of them: without it "
 
+-- several statements, by the lines of the first and the last
 abbrev pub more_text : List ℕ → Bringers → List ℕ
 more_text text b = codes "lines " ++ line_at text b.from ++ codes " to " ++ line_at text b.to ++ codes " bring most of them: without them "
 
@@ -21,6 +22,7 @@ more_text text b = codes "lines " ++ line_at text b.from ++ codes " to " ++ line
 abbrev pub left_text : ℕ → List ℕ
 left_text left = decimal left ++ codes " " ++ (if left == 1 then codes "lock is" else codes "locks are") ++ codes " needed\n"
 
+-- which statements bring most of the locks, and how many are needed without them; nothing where none were found
 abbrev pub bringers_text : List ℕ → Option Bringers → List ℕ
 bringers_text text None = []
 bringers_text text (Some b) = (if b.count == 1 then one_text text b else more_text text b) ++ left_text b.left

@@ -13,6 +13,7 @@ room a = a.accesses + a.left
 abbrev pub after : Passed → ℕ → Passed
 after a n = record { left = a.left - n; accesses = a.accesses }
 
+-- after one instruction that is a load or a store, if one is left
 abbrev pub after_access : Passed → Passed
 after_access a = record { left = a.left - 1; accesses = a.accesses + min a.left 1 }
 
@@ -43,6 +44,7 @@ abbrev mutual
 abbrev pub after_function : Passed → Function → Passed
 after_function a f = after (after_block a f.body) 1
 
+-- after the functions of a list, one by one
 abbrev pub after_functions : Passed → List Function → Passed
 after_functions a [] = a
 after_functions a (f ∷ fs) = after_functions (after_function a f) fs

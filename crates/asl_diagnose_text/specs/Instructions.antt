@@ -17,10 +17,12 @@ abbrev pub setters : List (List ℕ)
 setters =
     codes "int" ∷ codes "null" ∷ codes "mov" ∷ codes "add" ∷ codes "sub" ∷ codes "lt" ∷ codes "eq" ∷ codes "glob" ∷ codes "field" ∷ []
 
+-- the words with which the other instructions begin
 abbrev pub others : List (List ℕ)
 others =
     codes "load" ∷ codes "store" ∷ codes "new" ∷ codes "jmp" ∷ codes "jz" ∷ codes "call" ∷ codes "ret" ∷ codes "out" ∷ codes "acq" ∷ codes "rel" ∷ []
 
+-- instructions begin with the word
 abbrev pub is_instruction_word : List ℕ → Bool
 is_instruction_word word = is_one word setters || is_one word others
 
@@ -64,6 +66,7 @@ is_lock_word word = is_one word (codes "root" ∷ codes "class" ∷ codes "expr"
 abbrev pub is_table_word : List ℕ → Bool
 is_table_word word = bytes_eq word (codes "classes") || bytes_eq word (codes "global")
 
+-- a line that opens a function or a list begins with the word
 abbrev pub is_opening_word : List ℕ → Bool
 is_opening_word word = bytes_eq word (codes "fn") || bytes_eq word (codes "list")
 

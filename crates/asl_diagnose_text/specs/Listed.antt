@@ -11,6 +11,7 @@ kind_word (kind.Fixed m) = mark_bytes m
 kind_word kind.Name = codes "a name"
 kind_word kind.Number = codes "a number"
 
+-- what stands before the kinds, by those after the first: whether there is one kind or more
 abbrev pub list_head : List TokenKind → List ℕ
 list_head [] = codes "expected"
 list_head (k ∷ kinds) = codes "expected one of:"
@@ -19,9 +20,11 @@ list_head (k ∷ kinds) = codes "expected one of:"
 abbrev pub kind_text : TokenKind → List ℕ
 kind_text k = codes " " ++ kind_word k
 
+-- all of some kinds, one after the other
 abbrev pub kinds_text : List TokenKind → List ℕ
 kinds_text = flat_map kind_text
 
+-- what stands behind the kinds: whether the program may end there, too
 abbrev pub list_end : Bool → List ℕ
 list_end true = codes ", or the end\n"
 list_end false = codes "\n"

@@ -25,6 +25,7 @@ noted_as s at Function = record s { function = Some at }
 noted_as s at Parameter = record s { parameter = Some at }
 noted_as s at Nothing = s
 
+-- with the name declared at this place, as what the next name declares
 abbrev pub noted : Seen → ℕ → Seen
 noted s at = noted_as s at s.next
 

@@ -50,6 +50,7 @@ abbrev pub is_at_feed : List ℕ → Bool
 is_at_feed [] = true
 is_at_feed (b ∷ bs) = b == 10
 
+-- a line ends before these bytes
 abbrev pub ends_line : List ℕ → Bool
 ends_line [] = true
 ends_line (b ∷ bs) = (b == 10) || (b == 13 && is_at_feed bs)

@@ -7,6 +7,7 @@ use Rattle.asl_diagnose_text.specs.declared.text_lines.TextLines as rows
 use Rattle.asl_diagnose_text.specs.declared.text_lines.TextLine as row
 use Rattle.asl_diagnose_text.specs.Instructions.{breaks, is_instruction}
 
+-- how many bytes of the text are left
 abbrev pub rows_left : rows.TextLines → ℕ
 rows_left r = length r.rest.now
 

@@ -24,6 +24,7 @@ abbrev pub mark_of : Token → Option Mark
 mark_of (Fixed m) = Some m
 mark_of t = None
 
+-- the word or symbol that the first of some tokens is, if it is one
 abbrev pub first_mark : List Token → Option Mark
 first_mark [] = None
 first_mark (t ∷ ts) = mark_of t
@@ -38,6 +39,7 @@ role_in_body sign.Other (Some mark.OpenParen) = role.Call
 role_in_body sign.Other (Some mark.Becomes) = role.Assigned
 role_in_body sign.Other m = role.Local
 
+-- what a name does: it declares what the next name declares, if that is anything, else it does as in a body, by what stands round it
 abbrev pub role_of : Declares → Sign → Option Mark → Role
 role_of what.Nothing s m = role_in_body s m
 role_of d s m = role.Declares d
@@ -53,11 +55,13 @@ declares_as what.Global (role.Declares what.Global) = true
 declares_as what.Function (role.Declares what.Function) = true
 declares_as d r = false
 
+-- a name with such a role declares a parameter or assigns a local
 abbrev pub sets_local : Role → Bool
 sets_local (role.Declares what.Parameter) = true
 sets_local role.Assigned = true
 sets_local r = false
 
+-- a name with such a role uses what is not there, where these say whether there are a global, a function and a local of the name
 abbrev pub lacks : Bool → Bool → Bool → Role → Bool
 lacks globals functions locals role.Local = not locals
 lacks globals functions locals role.GlobalUse = not globals

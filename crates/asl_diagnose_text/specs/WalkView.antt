@@ -33,6 +33,7 @@ abbrev pub MayEndAt : Control → Type 0
 MayEndAt ItemStart = Unit {0}
 MayEndAt _ = ⊥
 
+-- the automaton may end at the place
 abbrev pub MayEnd : Place → Type 0
 MayEnd p = MayEndAt p.control
 

@@ -163,6 +163,7 @@ abbrev pub later_text : List Token → List ℕ
 later_text [] = []
 later_text (t ∷ ts) = codes ", " ++ (word_of t ++ later_text ts)
 
+-- all operands, after a space where there are some
 abbrev pub operands_text : List Token → List ℕ
 operands_text [] = []
 operands_text (t ∷ ts) = codes " " ++ (word_of t ++ later_text ts)
@@ -171,6 +172,7 @@ operands_text (t ∷ ts) = codes " " ++ (word_of t ++ later_text ts)
 abbrev pub instr_text : Instr → List ℕ
 instr_text i = name_of (instr_name i) ++ operands_text (flat_map operand_tokens (operands i))
 
+-- an instruction between backticks
 abbrev pub marked_text : Instr → List ℕ
 marked_text i = codes "`" ++ instr_text i ++ codes "`"
 
@@ -183,10 +185,12 @@ abbrev pub both_text : ℕ → Instr → Instr → List ℕ
 both_text function own there =
     function_text function ++ codes " of the source has " ++ marked_text own ++ codes " there, and the program has " ++ marked_text there
 
+-- what the source has at a place where the program has no instruction
 abbrev pub source_alone_text : ℕ → Instr → List ℕ
 source_alone_text function own =
     function_text function ++ codes " of the source has " ++ marked_text own ++ codes " there, and the program has none"
 
+-- what the program has at a place where the source has no instruction
 abbrev pub program_alone_text : ℕ → Instr → List ℕ
 program_alone_text function there =
     function_text function ++ codes " of the program has " ++ marked_text there ++ codes " there, and the source has none"
@@ -213,6 +217,7 @@ check_text (check.Unguarded section l) = lacking_text (codes "Unguarded") sectio
 abbrev pub check_line : CheckFault → List ℕ
 check_line f = codes "asl: " ++ check_text f ++ codes "\n"
 
+-- the lines of several refusals of one's own lists
 abbrev pub check_lines : List CheckFault → List ℕ
 check_lines = flat_map check_line
 
