@@ -29,10 +29,12 @@ op_at path n = option_map_or op_number (slice_get path n) 0
 abbrev pub path_numbers : List Op → List ℕ
 path_numbers path = op_at path 0 ∷ op_at path 1 ∷ op_at path 2 ∷ op_at path 3 ∷ op_at path 4 ∷ op_at path 5 ∷ op_at path 6 ∷ op_at path 7 ∷ []
 
+-- whether an expression begins at a global, and not at a register
 abbrev pub is_global : Base → Bool
 is_global (Reg register) = false
 is_global (Global global) = true
 
+-- the number of the register or of the global at which an expression begins
 abbrev pub base_number : Base → ℕ
 base_number (Reg register) = register
 base_number (Global global) = global

@@ -8,9 +8,11 @@ use Rattle.std.specs.declared.alloc.Global.{Global}
 use Rattle.std.specs.contracts.impls.GlobalAllocator.TheImpl.{ghosts}
 use Rattle.asl_c_programs.specs.contracts.opened.Opened.{the_row}
 
+-- what contracts see of the program in a slot's box: the values by which they see an `Opened`
 abbrev pub Kept : Type 0
 Kept = (the_row).Denot
 
+-- how these values are coded, which a slot's ghost field needs: as the row of `Opened` says
 abbrev pub coded_kept : Coded Kept
 coded_kept = (the_row).coded
 

@@ -45,6 +45,8 @@ some_list_has test i = list_any (list_any test) i.lists
 abbrev pub section_count_of : List Instr → ℕ
 section_count_of code = count_by is_acquire code
 
+-- what C gets of a whole program: its version, how many it has of each part, where threads start, whether a list has a lock on the root,
+-- and whether it was opened from a source
 abbrev pub counts_of : Opened → Counts
 counts_of o = record {
   version = o.program.version;
@@ -69,6 +71,7 @@ class_named i class = if nat_lt class i.classes then Some (some_list_has (is_of_
 abbrev pub function_entry : ℕ → Function → FunctionEntry
 function_entry first f = record { parameters = f.params; registers = f.regs; first = first; instructions = f.len }
 
+-- what C gets of the function of this number, if there is one
 abbrev pub function_at : Image → ℕ → Option FunctionEntry
 function_at i n = option_map (function_entry (first_of i.functions n)) (slice_get i.functions n)
 
@@ -78,10 +81,12 @@ pub record IsSection (i : Image) (n : ℕ) (s : SectionEntry) : Type 0 where
   pub number : sections_before i.code s.place ≡ n
   pub body : (f : Function) × LiesIn i s.function s.place f
 
+-- the effect is that of a write
 abbrev pub is_write : Effect → Bool
 is_write Read = false
 is_write Write = true
 
+-- the operation follows the address in the cell, which is read for that
 abbrev pub is_follow : Op → Bool
 is_follow Deref = true
 is_follow (Off cells) = false
@@ -96,8 +101,10 @@ reads_cell (lock.Expr expr effect) = list_any is_follow expr.path
 abbrev pub is_for_writing : Lock → Bool
 is_for_writing l = is_write (effect_of l)
 
+-- what C gets of a list: how many locks it has, whether its evaluation reads cells, and whether some lock is for writing
 abbrev pub list_entry : List Lock → ListEntry
 list_entry locks = record { locks = length locks; reads_cells = list_any reads_cell locks; writes = list_any is_for_writing locks }
 
+-- what C gets of the list of this number, if there is one
 abbrev pub list_at : Image → ℕ → Option ListEntry
 list_at i n = option_map list_entry (slice_get i.lists n)

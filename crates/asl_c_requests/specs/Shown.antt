@@ -25,6 +25,7 @@ told_at (c ∷ cs) cell = if (c.object == cell.object) && (c.offset == cell.offs
 abbrev pub shape : Object → ℕ × ℕ
 shape o = (o.class, length o.cells)
 
+-- the class and the size of an object that is shown
 abbrev pub shown_shape : ShownObject → ℕ × ℕ
 shown_shape o = (o.class, o.size)
 

@@ -31,6 +31,7 @@ abbrev pub told_or : Option (Option Cell) → Cell → Result (Option Cell) Cell
 told_or None cell = Err cell
 told_or (Some next) cell = Ok next
 
+-- where `*` leads from the cell: nowhere if the cell is not there, else where is told; or the cell, if nothing is told of it
 abbrev pub followed : List ShownObject → List ShownCell → Cell → Result (Option Cell) Cell
 followed objects cells cell = if is_there objects cell then told_or (told_at cells cell) cell else Ok None
 
@@ -43,6 +44,7 @@ abbrev pub moved : List ShownObject → ℕ → Cell → Option Cell
 moved objects places cell =
     option_and_then (λ size. if nat_lt (cell.offset + places) size then Some (cell_of cell.object (cell.offset + places)) else None) (size_at objects cell.object)
 
+-- where one operation leads from the cell, or the cell that must be told first
 abbrev pub walked : List ShownObject → List ShownCell → Op → Cell → Result (Option Cell) Cell
 walked objects cells Deref cell = followed objects cells cell
 walked objects cells (Off places) cell = Ok (moved objects places cell)
@@ -67,6 +69,7 @@ base_cell registers (Global global) = Some (cell_of global 0)
 abbrev pub leaf : List ShownObject → Cell → Option Node
 leaf objects cell = option_map (λ (o : ShownObject). Leaf (cell_of o.number cell.offset) o.class) (slice_get objects cell.object)
 
+-- the leaf of the cell at which an evaluation ends, none where it leads nowhere; or the cell that must be told first
 abbrev pub leaf_on : List ShownObject → Result (Option Cell) Cell → Result (Option Node) Cell
 leaf_on objects (Err cell) = Err cell
 leaf_on objects (Ok None) = Ok None

@@ -9,9 +9,11 @@ use Rattle.std.specs.contracts.impls.GlobalAllocator.TheImpl.{ghosts}
 use Rattle.asl_debugger.specs.Session.{Session}
 use Rattle.asl_c_sessions.specs.contracts.session.Session.{the_row}
 
+-- what contracts see of the session in a slot's box: the values by which they see a `Session`
 abbrev pub Kept : Type 0
 Kept = (the_row).Denot
 
+-- how these values are coded, which a slot's ghost field needs: as the row of `Session` says
 abbrev pub coded_kept : Coded Kept
 coded_kept = (the_row).coded
 
