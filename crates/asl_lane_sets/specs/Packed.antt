@@ -11,6 +11,7 @@ AreLanes lanes = (k : ℕ) → slice_index lanes k < 2 ^ 64
 abbrev pub has_bit : ℕ → ℕ → Bool
 has_bit lane bit = bit_at lane bit == 1
 
+-- whether the bit of a number is 1 in the lanes, of which each has 64 bits
 abbrev pub is_set : List ℕ → ℕ → Bool
 is_set lanes number = has_bit (slice_index lanes (number / 64)) (number % 64)
 

@@ -11,6 +11,7 @@ use Rattle.asl_lock_forest.specs.declared.leaves.Leaves.{Leaves}
 abbrev pub Leaf : Type 0
 Leaf = ℕ × ℕ × ℕ
 
+-- whether two leaves are the same in all three parts
 abbrev pub leaf_eq : Leaf → Leaf → Bool
 leaf_eq a b = (nat_eq a.0 b.0 && nat_eq a.1 b.1) && nat_eq a.2 b.2
 

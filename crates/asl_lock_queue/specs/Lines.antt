@@ -43,6 +43,7 @@ pub record AreLined (classes threads : ℕ) (held wanted : List Request) (line :
 abbrev pub held_of : Seats → List Request
 held_of seats = map (λ v. v.items) seats.held.items
 
+-- what each thread wants
 abbrev pub wanted_of : Seats → List Request
 wanted_of seats = map (λ v. v.items) seats.wanted.items
 

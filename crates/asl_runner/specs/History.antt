@@ -28,6 +28,7 @@ pub record Entry : Type 0 where
   pub thread : ℕ
   pub reply : Reply
 
+-- the entry of an event: its place in the journal, its thread and its reply
 abbrev pub entry : ℕ → ℕ → Reply → Entry
 entry index thread reply = record { index = index; thread = thread; reply = reply }
 

@@ -6,6 +6,7 @@ use Rattle.atomic_table.specs.Table.{State, Me, Step}
 use Rattle.asl_turns.specs.declared.rule.Hand.{Hand}
 use Rattle.asl_turns.specs.Turn.{times, once_below}
 
+-- a hand, from its limit, its passes left and spent, and its tickets
 abbrev pub hand : ℕ → ℕ → ℕ → List ℕ → Hand
 hand limit left spent tickets = record { limit = limit; left = left; spent = spent; tickets = tickets }
 
@@ -43,6 +44,7 @@ after_draw found v =
     if nat_lt found v.limit then hand v.limit v.left v.spent (v.tickets ++ found ∷ [])
     else hand v.limit (v.left - 1) (v.spent + 1) v.tickets
 
+-- what a draw that found the number makes of the hand; the rest of what the seat knows stays
 abbrev pub Drawn : Step (Unit {0}) → Me (Unit {0}) Hand → ℕ → Me (Unit {0}) Hand → Type 0
 Drawn s me found now = now ≡ (after_draw found me.0, me.1)
 
@@ -54,6 +56,7 @@ Looked s me found now = (now ≡ me) × (me.0.left ≤ 64)
 abbrev pub one_pass_less : Hand → Hand
 one_pass_less v = hand v.limit (v.left - 1) v.spent v.tickets
 
+-- the hand of the new seat after a split: one pass left, and no ticket
 abbrev pub one_pass : Hand → Hand
 one_pass v = hand v.limit 1 0 []
 
