@@ -30,9 +30,11 @@ value_by f (Int number) = Int number
 value_by f Null = Null
 value_by f (Addr object offset) = Addr (f object) offset
 
+-- a cell with another number for its object, at the same offset
 abbrev pub cell_by : (ℕ → ℕ) → Cell → Cell
 cell_by f cell = record { object = f cell.object; offset = cell.offset }
 
+-- a node of the lock tree, where the cell of a leaf has another number for its object
 abbrev pub node_by : (ℕ → ℕ) → Node → Node
 node_by f Root = Root
 node_by f (Class class) = Class class
@@ -43,6 +45,7 @@ abbrev pub fault_by : (ℕ → ℕ) → Fault → Fault
 fault_by f (fault.Unprotected cell effect) = fault.Unprotected (cell_by f cell) effect
 fault_by f other = other
 
+-- a reply, with other numbers for objects in the value that it puts out or in its fault
 abbrev pub reply_by : (ℕ → ℕ) → Reply → Reply
 reply_by f (reply.Out value) = reply.Out (value_by f value)
 reply_by f (reply.Fault why) = reply.Fault (fault_by f why)
@@ -52,12 +55,15 @@ reply_by f other = other
 abbrev pub object_by : (ℕ → ℕ) → Object → Object
 object_by f object = record { class = object.class; cells = each (value_by f) object.cells }
 
+-- a frame with other numbers for objects in its registers
 abbrev pub frame_by : (ℕ → ℕ) → Frame → Frame
 frame_by f frame = record { function = frame.function; pc = frame.pc; regs = each (value_by f) frame.regs; result = frame.result }
 
+-- what a running thread is at, with other numbers for objects in its frames and for those that are fresh for it
 abbrev pub activity_by : (ℕ → ℕ) → Activity → Activity
 activity_by f a = record { depth = a.depth; top = frame_by f a.top; below = each (frame_by f) a.below; fresh = each f a.fresh }
 
+-- a thread that runs or has ended, with other numbers for objects in what it is at, in its value or in its fault
 abbrev pub thread_by : (ℕ → ℕ) → Thread → Thread
 thread_by f (Running activity) = Running (activity_by f activity)
 thread_by f (Done value) = Done (value_by f value)

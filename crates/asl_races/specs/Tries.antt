@@ -72,6 +72,7 @@ pub data Outcome : Type 0 where
   Refused : Outcome
   Stopped : ℕ → Outcome
 
+-- this comes of the try of the thread, whose registers these are, to enter a section with this list
 abbrev pub IsOutcome : Holding → List Object → ℕ → List Value → List Lock → Outcome → Type 0
 IsOutcome h objects thread regs locks Granted = IsGrantedWithCare h objects thread regs locks
 IsOutcome h objects thread regs locks Refused =

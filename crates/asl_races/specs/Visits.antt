@@ -15,6 +15,7 @@ pub record Visit : Type 0 where
   pub cell : Cell
   pub is_read : Bool
 
+-- the visit of a cell that is read, or is not
 abbrev pub visit : Cell → Bool → Visit
 visit cell is_read = record { cell = cell; is_read = is_read }
 

@@ -26,6 +26,7 @@ abbrev pub IsOfKind : Lowered → Bool → ℕ → Type 0
 IsOfKind l true function = IsInner l function
 IsOfKind l false function = IsBare l function
 
+-- the function of each of these frames is of its kind, by whether a section is open at a frame below it
 abbrev pub AreOfKinds : Lowered → List Frame → Type 0
 AreOfKinds l [] = Unit {0}
 AreOfKinds l (f ∷ fs) = IsOfKind l (is_inside l fs) f.function × AreOfKinds l fs

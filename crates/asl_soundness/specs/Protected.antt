@@ -38,6 +38,7 @@ abbrev pub BaseThere : Classed → Base → Type 0
 BaseThere c (Reg register) = Unit {0}
 BaseThere c (Global global) = global < length c.globals
 
+-- the global on which the expression of a lock begins is there; a lock on a class or on the root has none
 abbrev pub LockThere : Classed → Lock → Type 0
 LockThere c (lock.Root effect) = Unit {0}
 LockThere c (lock.Class class effect) = Unit {0}

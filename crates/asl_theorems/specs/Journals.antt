@@ -13,6 +13,7 @@ use Rattle.asl_atomicity.specs.Renamed.{HasSerialUpTo, reply_by}
 abbrev pub event_of : TakenStep → Event
 event_of step = record { thread = step.thread; reply = step.reply }
 
+-- what a journal tells of the steps of a run, in their order
 abbrev pub events_of : List TakenStep → List Event
 events_of steps = map event_of steps
 
