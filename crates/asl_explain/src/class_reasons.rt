@@ -9,7 +9,8 @@ use asl_code::{Items, Lock};
 use std::alloc::{AllocError, Global};
 use std::fmt::Write;
 
-/// So many instructions are left out in turn to find some that part members.
+/// So many instructions are tried in all classes of an explanation together; `explain --classes` tries 16 for each class
+/// (`asl_class_text`, `parting.rt`).
 const MOST_TRIED: u32 = 64;
 
 /// A class on which some list has a lock, and why its members share it.

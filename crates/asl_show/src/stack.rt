@@ -21,7 +21,7 @@ pub fn push_stack(text: &mut String, machine: &Machine<'_>) -> Result<(), AllocE
     Ok(())
 }
 
-/// Adds the frames of a thread, the first called first.
+/// Adds the frames of a thread, the top one, which was called last, first.
 fn push_frames(text: &mut String, machine: &Machine<'_>, t: u32) -> Result<(), AllocError>
     requires { t < length machine.now.state.threads }
     ensures { OnOk result (string_bytes text.new ≡ string_bytes text.old ++ stack_of machine.now.state t) }

@@ -179,7 +179,8 @@ impl Teller<'_> {
         Ok(())
     }
 
-    /// Adds the line of a step after another, which may come after the step of a parameter.
+    /// Adds the line of a step after another. `parameter` is the step two back, if there is one. It matters only where the step
+    /// before is an argument's: then it has the parameter's lock at the entry of the callee, by which the parameter is named.
     pub(crate) fn push_step(
         &self,
         text: &mut String,
