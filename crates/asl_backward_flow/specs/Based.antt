@@ -1,4 +1,5 @@
--- What the needed locks of a function name is there (docs/ANALYSIS.md, "Needed locks").
+-- That a needed lock names nothing that is missing: its base, class or expression is there (docs/ANALYSIS.md, "Needed locks"). Promised
+-- by the law `what_needed_locks_name_is_there` of src/laws.rt.
 use Rattle.std.specs.Prelude.{◌≡◌, ◌<◌, ◌≤◌, ℕ, length, Some, slice_get}
 use Rattle.asl_code.specs.declared.image.Function as entry
 use Rattle.asl_code.specs.declared.lock.Base.{Base}
@@ -14,8 +15,8 @@ abbrev pub HasBase : Lowered → ℕ → Base → Type 0
 HasBase l f (Reg register) = (e : entry.Function) × (slice_get l.functions f ≡ Some e) × (register < e.regs)
 HasBase l f (Global global) = global < l.globals
 
--- the lock is on a class that is there, or on an expression of the function: its base is there, it is not too long, and it has
--- a class
+-- what a needed lock of the function `f` is, with paths of at most `k_limit` operations: on a class that is there, or on an expression
+-- whose base is there, which is not too long, and which has a class that is there; none is on the root
 abbrev pub IsLockOf : Lowered → Classed → ℕ → ℕ → Lock → Type 0
 IsLockOf l c k_limit f (lock.Root effect) = ⊥
 IsLockOf l c k_limit f (lock.Class class effect) = class < c.count

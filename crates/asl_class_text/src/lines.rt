@@ -113,7 +113,7 @@ fn push_chain(
     Ok(())
 }
 
-/// Whether a step passes an argument to a parameter.
+/// Whether this step passes an argument to a parameter.
 fn is_passed(facts: &Facts<'_>, told: &ToldStep) -> bool
     ensures { result ≡ is_passed facts.now told.now }
 {
@@ -123,7 +123,7 @@ fn is_passed(facts: &Facts<'_>, told: &ToldStep) -> bool
     }
 }
 
-/// Whether a step of a chain passes an argument to a parameter.
+/// Whether some step of a chain passes an argument to a parameter.
 fn goes_through_parameters(facts: &Facts<'_>, chain: &[ToldStep]) -> bool
     ensures { result ≡ goes_through_parameters facts.now chain.now }
 {

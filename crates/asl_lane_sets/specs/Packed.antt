@@ -19,7 +19,8 @@ is_set lanes number = has_bit (slice_index lanes (number / 64)) (number % 64)
 abbrev pub told : ℕ → List ℕ → List Bool
 told len lanes = map (is_set lanes) (range_with_len 0 len)
 
--- whole blocks of four lanes, one at least, as few as have the length, and no bit from the length on is 1
+-- whole blocks of four lanes, one at least, as few as have the length, and no bit from the length on is 1; `fits`: the length is one that
+-- a usize can be
 pub record IsPacked (len : ℕ) (lanes : List ℕ) : Type 0 where
   pub fits : len < 2 ^ 64
   pub count : length lanes ≡ 4 * ((len - 1) / 256 + 1)

@@ -47,7 +47,7 @@ words_of_register m function register (Some name) = local_words m function name
 abbrev pub register_words : Map → ℕ → ℕ → List ℕ
 register_words m function register = words_of_register m function register (register_name m function register)
 
--- the words for a base
+-- the words for a base: those of `base_name`, but that a local which has the name of a global, or none, stands behind its function's name
 abbrev pub base_words : Map → ℕ → Base → List ℕ
 base_words m function (Reg register) = register_words m function register
 base_words m function (Global global) = base_name m function (Global global)
