@@ -25,6 +25,7 @@ pub(crate) fn make_when_woken(
     let members = draft.members as usize;
     let places = (draft.members + draft.members + draft.functions * 256) as usize;
     let mut waiting = Waiting::new(alloc, owed.len().saturating_add(members), places)?;
+    // (counted, since it is proved that each function returns; no run comes to the end)
     for _ in 0..u64::MAX {
         let Some(next) = waiting.pop() else {
             return Ok(());

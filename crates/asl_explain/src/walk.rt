@@ -242,6 +242,7 @@ fn is_reached(
     let mut seen = HashSet::new(alloc);
     let mut waiting = Vec::new(alloc);
     let mut pc = from;
+    // (counted, since it is proved that each function returns; no run comes to the end)
     for _ in 0..u64::MAX {
         if let Some(stop) = next_stop(alloc, analysis, span, lock, pc, to)? {
             if stop == to {

@@ -75,6 +75,7 @@ fn flow_when_woken(alloc: Global, draft: &mut ClassDraft, flows: &[Flow]) -> Res
 {
     let (functions, members) = (draft.registers.len(), draft.cells.len());
     let mut waiting = Waiting::new(alloc, flows.len(), functions, members)?;
+    // (counted, since it is proved that each function returns; no run comes to the end)
     for _ in 0..u64::MAX {
         let Some(next) = next_flow(flows, &mut waiting) else {
             return Ok(());

@@ -43,6 +43,7 @@ pub fn read_whole<R: ByteSource>(alloc: Global, reader: &mut R) -> Result<Vec<u8
     let mut kept = Some(Vec::new(alloc));
     let mut read = 0;
     let mut buffer = [0u8; 4096];
+    // (counted, since it is proved that each function returns; no run comes to the end)
     for _ in 0..u64::MAX {
         let count = match reader.take_bytes(&mut buffer) {
             Ok(count) => count,

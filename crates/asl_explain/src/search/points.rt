@@ -34,6 +34,7 @@ impl Searcher {
     ) -> Result<(), AllocError>
         requires { IsAnalysed analysis.now }
     {
+        // (counted, since it is proved that each function returns; no run comes to the end)
         for _ in 0..u64::MAX {
             if self.search.accesses.len() >= most {
                 break;
