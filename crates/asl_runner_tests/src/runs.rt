@@ -269,7 +269,8 @@ pub fn apart(alloc: Global) -> Option<Program> {
     assembled(alloc, APART)
 }
 
-/// The counter, of version 2.
+/// `COUNTER` as a program of version 2, and else the same: for the test that such a program has up to 128 threads, where one of
+/// version 1 has up to 64.
 const SECOND: &[u8] =
     b"version 2\nclasses 1\nglobal 0\nentry 0\nfn 1 5\nglob r1, g0\nacq 0\nload r2, r1\nint r3, 1\nadd r4, r2, r3\nstore r1, r4\nrel\nret r0\nlist\nexpr r1 write\n";
 
