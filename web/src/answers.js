@@ -38,6 +38,7 @@ export function tableOf(answers) {
     const by = line ? 'not your lesson: ' : known ? '' : 'by the lesson that came with it: ';
     return [answer.by, answer.from, answer.title, ...numbers.map(i => marks[i] ?? ''), done, marks.length, by + steps + more];
   });
+  // in the order of the rows above
   const head = ['name', 'file', 'lesson', ...numbers.map(i => 'step ' + (i + 1)), 'done', 'of', 'told'];
   return [head, ...rows].map(row => row.map(cell).join('\t') + '\n').join('');
 }

@@ -7,7 +7,8 @@ export const FORBIDS = { robin: 'Round robin', until: 'Until blocked', random: '
   which: 'which lock is missing', edit: 'another text', lists: 'other lists', k: 'another k', threads: 'another number of threads' };
 const BLOCKS = ['program', 'source', 'list'];
 const MOST = { lines: 20000, steps: 60, choices: 9 };
-const STEP = /^step\s+[^=\s]/; // in a source `step` would stand before `=`
+// the line of the next step: a block that reaches it lacks its `end`; a source's own `step` stands before `=`
+const STEP = /^step\s+[^=\s]/;
 const KEY = /^(?:[^*\s]|Left|Right|Up|Down|Home|End|Enter|Escape|open|right|list\d+)(?:\*\d{1,3})?$/;
 const NUMBERS = { k: [0, 8], threads: [1, 128] };
 
