@@ -1,5 +1,6 @@
 // Which cells the step of an event touches, and how (docs/RACES.md, "The words"): a load, a store, a new, and what the evaluation of a
 // granted list reads. All of it stands in the states that the session prints before and after the event.
+// Tried by web/test/order.mjs.
 
 const NONE = { reads: [], writes: [], made: -1 };
 const known = new WeakMap(); // by event: what a step touches does not change while the run has it

@@ -1,4 +1,5 @@
 // What the buttons and keys do to the bench.
+// Tried by web/test/using.mjs and web/test/moving.mjs.
 
 import { writeAddress } from './address.js';
 import { unlessDropped } from './aside.js';

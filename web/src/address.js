@@ -1,4 +1,5 @@
 // What the page shows, as the fragment of its address: program, run, lesson and look.
+// Tried by web/test/shares.mjs and web/test/keeping.mjs.
 
 import { bench, due, examples } from './desk.js';
 import { setText, byId } from './dom.js';

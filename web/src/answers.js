@@ -1,4 +1,5 @@
 // What is told of answers that were judged: of each in a line, of all in a sum, and as a table for a sheet of marks.
+// Tried by web/test/handin.mjs.
 
 import { differsAt, isKnown } from './lessons.js';
 

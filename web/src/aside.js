@@ -1,6 +1,7 @@
 // Calls of the toolchain that may take long, made beside the page by a worker, one after the other, so that the page stays free. A
 // call that is dropped or stopped gets no answer; if it continues, its worker is ended, and the next call has a new one. Where the
 // browser makes no worker, the page makes the calls itself.
+// Tried by web/test/aside.mjs and web/test/waiting.mjs.
 
 const PATIENCE = 100; // milliseconds that a dropped call may go on
 const LARGE = 2 ** 28; // bytes of memory with which a worker is ended, since memory of WebAssembly never shrinks

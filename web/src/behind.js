@@ -1,5 +1,6 @@
 // What nobody waits for: the lists of every k from 0 to 8, and what the toolchain warns of. It is asked behind all else, and what comes too
 // late for its text is left.
+// Tried by web/test/warnings.mjs and web/test/lecture.mjs.
 
 import { compileText } from './toolchain.js';
 import { readProgram } from './program.js';

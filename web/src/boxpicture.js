@@ -1,5 +1,6 @@
 // A panel as an SVG that stands alone: its boxes as rectangles, its words as texts where they stand, its arrows as they are, in light
 // colours.
+// Tried by web/test/large.mjs and web/test/shares.mjs.
 
 import { make, svg } from './dom.js';
 import { isDark, setDark } from './page.js';

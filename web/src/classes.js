@@ -1,4 +1,5 @@
 // Why objects are one class, in the words of the toolchain's `explain --classes`.
+// Tried by web/test/classes.mjs.
 
 import { classesText } from './toolchain.js';
 

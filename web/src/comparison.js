@@ -1,5 +1,6 @@
 // The same schedule at each k: which of its steps are blocked there. It is asked of the toolchain one k at a time, when nothing has
 // changed for a while, after all else, so that nothing waits for it.
+// Tried by web/test/shares.mjs.
 
 import { compile, stepLines } from './toolchain.js';
 import { unlessDropped } from './aside.js';

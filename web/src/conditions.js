@@ -1,5 +1,6 @@
 // What a step of a lesson waits for, in a small vocabulary (docs/LESSONS.md). A condition looks at a bench, whose events and states are
 // the toolchain's, and at what `check` says of its lists.
+// Tried by web/test/lessonfiles.mjs and web/test/lessons.mjs.
 
 import { waitAt } from './stretches.js';
 import { functionAt } from './program.js';

@@ -1,4 +1,5 @@
 // Files that the toolchain makes of the source, with the lists that it infers: the C program, and all lists as one JSON document.
+// Tried by web/test/derived.mjs.
 
 import { byId, count, el } from './dom.js';
 import { unlessDropped } from './aside.js';

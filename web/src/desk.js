@@ -1,4 +1,5 @@
 // The bench of this page, what it is compared with, and what is due: a change is drawn once a frame.
+// Tried by web/test/lecture.mjs.
 
 import { Bench } from './bench.js';
 import { Comparison } from './comparison.js';

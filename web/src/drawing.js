@@ -1,4 +1,5 @@
 // Draws the page: once a frame, only what changed.
+// Tried by web/test/views.mjs and web/test/pace.mjs.
 
 import { chooseK, openWhy } from './actions.js';
 import { writeAddress } from './address.js';

@@ -1,5 +1,6 @@
 // What the panels for lists by hand, lessons, going further and prediction, and files that are made of the source, bring to the page:
 // their keys, buttons and drawing.
+// Tried by web/test/own.mjs and web/test/go.mjs.
 
 import { isForbidden, isOfPage, keepRecords, LESSONS } from './lessons.js';
 import { drawClasses, listenToClasses, nextClass } from './panels/classes.js';

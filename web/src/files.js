@@ -1,4 +1,5 @@
 // Files in and out: what a file is, told by its bytes; and what becomes of images and run files.
+// Tried by web/test/shares.mjs and web/test/opening.mjs.
 
 import { compile, disassemble, trace } from './toolchain.js';
 import { readTrace } from './trace.js';

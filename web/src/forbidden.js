@@ -1,5 +1,6 @@
 // What a step of a lesson forbids and what can be seen in a record of it: another text, another k, other threads, other lists. How the
 // steps were made, by which keys, no record shows.
+// Tried by web/test/handin.mjs.
 
 import { FORBIDS, openingAt } from './lessontext.js';
 import { ownLists } from './own.js';

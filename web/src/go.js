@@ -1,5 +1,6 @@
 // Going further than a step: one thread to its next `atomic`, to the end of its section, to a line, to its next event that is not `ran`;
 // all threads to a breakpoint. What is recorded is only gone through, as far as it is the way; then steps are made.
+// Tried by web/test/go.mjs.
 
 const MOST = 2000; // steps that are made before it is given up
 

@@ -1,5 +1,6 @@
 // An answer to a lesson as a text: for each step what was there when it was done. Whoever gets it replays and judges it; the format is
 // in docs/LESSONS.md.
+// Tried by web/test/handin.mjs and web/test/lessonfiles.mjs.
 
 import { Bench } from './bench.js';
 import { untilDone } from './aside.js';

@@ -1,5 +1,6 @@
 // What a reload finds again: the address says all, or where that would be too long the browser's store of this tab. What is newer than the
 // address when the page is left is in that store, too: an address that is set then is not the one that a reload opens.
+// Tried by web/test/keeping.mjs.
 
 import { ownOfJson } from './own.js';
 

@@ -1,5 +1,6 @@
 // Everything by keyboard: the table of keys that `?` shows, and which action a key calls; the actions are bound to it in listening.js. In
 // the editor only Escape is a key of the workbench.
+// Tried by web/test/using.mjs.
 
 export const KEYS = [
   ['0 to 9', 'step that thread'], ['← →', 'one event back, forward'], ['Shift ← →', 'ten events'], ['Home End', 'start, end'],

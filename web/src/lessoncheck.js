@@ -1,5 +1,6 @@
 // What only the toolchain can say of a lesson: whether its programs compile, its lists are lists of their sections, and what its
 // conditions name is there. What is wrong is told by the lines of the lesson.
+// Tried by web/test/lessonfiles.mjs.
 
 import { compileText, assemble } from './toolchain.js';
 import { mapSource } from './places.js';

@@ -1,5 +1,6 @@
 // The lesson that is open: which step is the present one, what was done, and what may not be done meanwhile. Lessons are texts
 // (docs/LESSONS.md); those that the page has are the files of web/lessons.
+// Tried by web/test/lessons.mjs and web/test/lessonfiles.mjs.
 
 import { openingAt, readLesson } from './lessontext.js';
 import { broken, forbids } from './forbidden.js';

@@ -1,5 +1,6 @@
 // A lesson from its text (docs/LESSONS.md): title, programs, steps with hints, conditions or choices. Each wrong line is refused with its
 // number and a reason; nothing of a lesson that is refused is shown but its lines, as text.
+// Tried by web/test/lessonfiles.mjs.
 
 import { readCondition } from './conditions.js';
 

@@ -1,6 +1,7 @@
 // Bytes as letters of a page in UTF-8: web/letters.py writes them, and has the same constants. 27 bits are four digits of base 108, the
 // first for the most, and a digit takes one byte of the page: a small one is a letter of ASCII, a greater one is with the digit behind it
 // a letter of two bytes. A last group of fewer digits stands for as many whole bytes as its bits have.
+// Tried by web/test/letters.mjs.
 
 const ASCII = '!"#$%\'()*+,-./0123456789:;=?@ABCDEFGHIJKLMNOPQRSTUVWXYZ[\\]^_\x60abcdefghijklmnopqrstuvwxyz{|}~'; // no blank, no <>&
 const BASE = 108, BITS = 27, SMALL = ASCII.length;

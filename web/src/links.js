@@ -1,4 +1,5 @@
 // What a link says: that is opened here, or it is told why it cannot be.
+// Tried by web/test/opening.mjs.
 
 import { bench, examples } from './desk.js';
 import { MOST_THREADS } from './bench.js';

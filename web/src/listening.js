@@ -1,4 +1,5 @@
 // Which button, key or other event does what.
+// Tried by web/test/using.mjs and web/test/opening.mjs.
 
 import { chooseK, chooseThreads, loadExample, loadFileList, openNew, openShare, play, random, rename, replies, robin, sameThread,
   toHolder, toWriter, until, whyHere } from './actions.js';

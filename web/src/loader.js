@@ -1,5 +1,6 @@
 // The script of this page is packed, as its module is. This unpacks all that is packed, and runs the script.
 // What a person can read is in the folder web/src of the repository; web/build makes the page of it.
+// Tried by web/test/starting.mjs.
 
 import { cannotStart, unpackAll } from './packed.js';
 

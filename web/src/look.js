@@ -1,4 +1,5 @@
 // How the page looks, as a link says it: `view=code,time,locks` shows these panels alone, `lecture`, `theme=dark`, `size=18`, `keys=off`.
+// Tried by web/test/lecture.mjs and web/test/shares.mjs.
 
 import { byId } from './dom.js';
 import { isDark, setDark, setLecture, setTextSize, sizeAsked, toggleInstructions } from './page.js';

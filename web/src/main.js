@@ -1,4 +1,5 @@
 // Puts the workbench together: loads the toolchain, listens, and opens what the address or the page before says.
+// Tried by web/test/starting.mjs.
 
 import { loadExample } from './actions.js';
 import { bench, changed, due, examples } from './desk.js';

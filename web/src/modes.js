@@ -1,4 +1,5 @@
 // What a thread that holds a mode does (docs/LOCKS.md, "Modes"), in words.
+// Tried by web/test/words.mjs and web/test/using.mjs.
 
 // The same in a word or three, for a sentence.
 export const BRIEFLY = { IS: 'read below', IX: 'write below', S: 'read', SIX: 'read all, write below', X: 'write' };

@@ -1,4 +1,5 @@
 // Notes of one's own on lines, by the number of the line from 0 on: a source has no comments. They stay with their lines as one types.
+// Tried by web/test/notes.mjs.
 
 export const MOST_LETTERS = 200, MOST_NOTES = 400;
 export const cleanNote = words => words.replace(/[\p{Cf}\p{Cc}\s]+/gu, ' ').trim().slice(0, MOST_LETTERS);

@@ -1,5 +1,6 @@
 // What comes in from without: files, several at once and in either order, and links. What was opened stays at hand in the list of
 // examples. A run finds its source among those that were opened, the text that is open, and the examples.
+// Tried by web/test/opening.mjs.
 
 import { byId, count, el } from './dom.js';
 import { assemblyOf, readFile, sourceOf, textOf } from './files.js';

@@ -1,6 +1,7 @@
 // Through which release and grant the event that is shown comes after the last one of another thread that is in conflict with it: on a
 // cell that both touch, and one of them writes (docs/RACES.md). The search goes back event by event, a few at a time, so that no step
 // waits for it.
+// Tried by web/test/order.mjs.
 
 import { accessOf, conflict, isGrant, isRelease, touches } from './access.js';
 

@@ -1,6 +1,7 @@
 // Lists of one's own for a source: the program that is inferred for it, with other locks in its lists. Its code stays what it is, and
 // whether the lists are enough is asked of the toolchain. `own` has the text of the list of each section that is not the inferred one; at
 // those that are, it is undefined, as it is behind its end.
+// Tried by web/test/own.mjs.
 
 import { assemble, checkLists, compileText, diagnoseAssembly } from './toolchain.js';
 

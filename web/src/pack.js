@@ -1,4 +1,5 @@
 // Texts and schedules as letters of an address: deflated, in base 64 without signs that an address gives a meaning.
+// Tried by web/test/shares.mjs and web/test/keeping.mjs.
 
 const encoder = new TextEncoder(), decoder = new TextDecoder();
 export const MOST_TEXT = 2 ** 24; // a short link can stand for gigabytes

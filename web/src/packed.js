@@ -1,4 +1,5 @@
 // What the page carries packed, each in an element of its own: gzip in letters.
+// Tried by web/test/starting.mjs.
 
 import { fromLetters } from './letters.js';
 

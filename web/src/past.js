@@ -1,4 +1,5 @@
 // What was there before: the moments that undo goes back to, and those that redo brings again.
+// Tried by web/test/keeping.mjs.
 
 const MOST = 200;
 

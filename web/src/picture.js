@@ -1,4 +1,5 @@
 // The printed timeline as a file that stands alone: what the style says of its shapes and texts becomes attributes, in light colours.
+// Tried by web/test/shares.mjs.
 
 import { byId, count, make, renew, svg } from './dom.js';
 import { isDark, setDark } from './page.js';

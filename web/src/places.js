@@ -1,5 +1,6 @@
 // Where each instruction stands in its text, and what numbers are called: of a source by the toolchain's `map`, of an assembly text
 // line by line.
+// Tried by web/test/go.mjs and web/test/panels.mjs.
 
 import { mapText } from './toolchain.js';
 

@@ -1,4 +1,5 @@
 // The line of the text that something beside it points to: one at a time, as long as the text is the same.
+// Tried by web/test/classes.mjs and web/test/warnings.mjs.
 
 const pointed = { line: -1, text: '', isNew: false };
 

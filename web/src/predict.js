@@ -1,5 +1,6 @@
 // Before a step the page asks what it will do: run, print, be blocked, by whom and at which node, or meet a fault. The step is made when
 // that is answered, and hits are counted. What is asked for and what came of it is the toolchain's.
+// Tried by web/test/go.mjs.
 
 const NONE = { on: false, all: true, hits: 0, asked: 0, thread: -1, guess: null, told: '' };
 export const predict = { ...NONE };

@@ -1,5 +1,6 @@
 // How high the panels of the first screen may be in a lecture or an embedding: what header and timeline leave of the window, and how much
 // the lock tree wants.
+// Tried by web/test/lecture.mjs.
 
 import { byId, textSize } from './dom.js';
 import { keepClash } from './panels/locks.js';

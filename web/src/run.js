@@ -2,6 +2,7 @@
 // states at positions that were looked at, as the session prints them there. The session is the page's own: a step and what it changed
 // cost less than a message to a worker. What of many steps is asked beside the page has no answer for a while; until then the run may
 // be looked at, and only what has waited for the answer may change it.
+// Tried by web/test/moving.mjs and web/test/views.mjs.
 
 import { openSession, record, trace } from './toolchain.js';
 import { readTrace, readEvent } from './trace.js';

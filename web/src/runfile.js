@@ -1,5 +1,6 @@
 // The two parts of a run file (docs/JOURNAL.md, "Run files"): the length of the image in four bytes, the image, the journal. The
 // toolchain has accepted the file before it is cut here. A journal's number of threads stands after its four letters and version.
+// Tried by web/test/shares.mjs and web/test/opening.mjs.
 
 const LENGTH = 4, THREADS = 6;
 

@@ -1,4 +1,5 @@
 // What the last event did, in one sentence; and which comes next.
+// Tried by web/test/words.mjs and web/test/using.mjs.
 
 import { el, chip, count } from './dom.js';
 import { differenceAt } from './difference.js';

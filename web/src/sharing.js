@@ -1,4 +1,5 @@
 // Share: a link, an embedding, command lines, and files of what is seen.
+// Tried by web/test/shares.mjs and web/test/own.mjs.
 
 import { byId, el } from './dom.js';
 import { unlessDropped } from './aside.js';

@@ -1,4 +1,5 @@
 // The toolchain that the page carries. And a worker that has the same, made of the text that the page carries for it.
+// Tried by web/test/starting.mjs and web/test/waiting.mjs.
 
 import { loadAsl } from '../asl.mjs';
 

@@ -1,5 +1,6 @@
 // The commands of the toolchain that the workbench uses, with their refusals. They are called beside the page (aside.js), those that
 // ask of a text and those that ask of a run each by a worker of its own, so that neither waits for the other. Sessions are the page's own.
+// Tried by web/test/starting.mjs and web/test/waiting.mjs.
 
 import { Aside } from './aside.js';
 import { loadTool, workerOf } from './tool.js';

@@ -1,4 +1,5 @@
 // The lines of `asl log --trace` (docs/JOURNAL.md) as events: `INDEX THREAD PC DEPTH REPLY`.
+// Tried by web/test/moving.mjs.
 
 function replyOf(words) {
   const [reply, ...rest] = words;

@@ -1,4 +1,5 @@
 // What `check` says of lists, asked once for each source, program and k, and told again where it is wanted.
+// Tried by web/test/own.mjs.
 
 import { unlessDropped } from './aside.js';
 import { compileText } from './toolchain.js';

@@ -1,5 +1,6 @@
 // What the debugger prints at a position (docs/JOURNAL.md) as a state, and its view back as text. A line that is not known is an
 // error: the page shows nothing that it does not understand.
+// Tried by web/test/views.mjs.
 
 const NONE = { registers: [], held: new Map(), fresh: [] };
 

@@ -1,4 +1,5 @@
 // What the text does not say: the warnings of the toolchain's `lists`, each with its line, in few words for beside it, and in a sentence.
+// Tried by web/test/warnings.mjs.
 
 import { hasCommand, listsText } from './toolchain.js';
 

@@ -1,4 +1,5 @@
 // Why a section needs its locks, in the words of the toolchain's `explain`.
+// Tried by web/test/shares.mjs and web/test/words.mjs.
 
 import { explainText } from './toolchain.js';
 

@@ -1,4 +1,5 @@
 // The toolchain beside the page: it gets the compiled module, then calls, and answers one after the other (aside.js).
+// Tried by web/test/waiting.mjs.
 
 import { loadAsl } from '../asl.mjs';
 

@@ -1,5 +1,6 @@
 // A file of the page's own: a text that has the program and the run (docs/WORKBENCH.md, "Files and links"). Head lines, then a line
 // `text`, then the program as it is.
+// Tried by web/test/opening.mjs.
 
 import { notesText, readNotes, MOST_NOTES } from './notes.js';
 import { ownLists } from './own.js';

@@ -1,5 +1,6 @@
 // Which event wrote the value that a register or a cell has at a position, by the table of instructions; none is -1. Where a store went
 // is asked of the run.
+// Tried by web/test/views.mjs.
 
 import { byId, el, withCode } from './dom.js';
 import { note } from './page.js';

@@ -1,4 +1,5 @@
 // Handing in, and looking at what was handed in: the answers that were opened, each judged by its lesson, step by step.
+// Tried by web/test/handin.mjs and web/test/lessonfiles.mjs.
 
 import { byId, count, el, renew, whenDrawn, withCode } from '../dom.js';
 import { copyText, download } from '../files.js';

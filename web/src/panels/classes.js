@@ -1,5 +1,6 @@
 // Why objects are one class: what the toolchain says of it, beside the program. A line that is named there is a button, which marks that
 // line of the text.
+// Tried by web/test/classes.mjs.
 
 import { byId, el, renew, setText, withCode } from '../dom.js';
 import { unlessDropped } from '../aside.js';

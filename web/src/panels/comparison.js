@@ -1,5 +1,6 @@
 // How the run would go at each k: its blocked steps, and the step that is shown, if it is blocked. The lists alone do not say whether
 // finer ones let anybody pass in this run.
+// Tried by web/test/shares.mjs.
 
 import { byId, el, kButton, renew } from '../dom.js';
 import { KS } from '../comparison.js';

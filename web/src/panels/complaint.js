@@ -1,5 +1,6 @@
 // A refusal of the text, below it: line, column, the line with a caret, plain words. The line is shown again, since its own place may be
 // scrolled away, and it may have marks that cannot be seen there.
+// Tried by web/test/using.mjs and web/test/shares.mjs.
 
 import { byId, el, renew, withCode } from '../dom.js';
 

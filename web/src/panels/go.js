@@ -1,5 +1,6 @@
 // The bar under the timeline's head that makes a thread go further than a step, the dialog that asks for a line, and breakpoints beside
 // the program.
+// Tried by web/test/go.mjs.
 
 import { byId, chip, el, renew } from '../dom.js';
 import { note, openDialog, tellForbidden } from '../page.js';

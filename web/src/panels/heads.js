@@ -1,5 +1,6 @@
 // The heads of the lanes: buttons that step a thread. They stand beside the drawing and not in it, since keys and screen readers reach
 // buttons alone.
+// Tried by web/test/using.mjs and web/test/lessons.mjs.
 
 import { el, chip, threadColour } from '../dom.js';
 import { waitAt } from '../stretches.js';

@@ -1,5 +1,6 @@
 // The heap: objects as rows of cells, chains laid out from the globals, arrows
 // between them, the registers that point at each, the locks on each cell.
+// Tried by web/test/views.mjs and web/test/panels.mjs.
 
 import { byId, el, svg, threadColour, count, renew, setText, textSize, whenDrawn } from '../dom.js';
 import { showWriter, writerOfCell } from '../writers.js';

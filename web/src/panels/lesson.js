@@ -1,4 +1,5 @@
 // A lesson beside the panels: its steps, those done ticked, the present one with a hint on request.
+// Tried by web/test/lessonfiles.mjs and web/test/lessons.mjs.
 
 import { byId, el, renew, setText, whenDrawn, withCode } from '../dom.js';
 import { LESSONS, addLesson, advance, brokenHere, chosen, examplesOf, endLesson, isForbidden, isOpened, isOver, isOfPage, lesson,

@@ -1,5 +1,6 @@
 // While the run of an answer is looked at: whose it is, of which step and how that is judged, above the timeline, with the way to the next
 // run and back to the answers.
+// Tried by web/test/handin.mjs.
 
 import { byId, el, renew } from '../dom.js';
 

@@ -1,5 +1,6 @@
 // Notes of one's own on lines: below the program as a list, since in the text they are painted, where no key reaches them; and the dialog
 // that writes one.
+// Tried by web/test/notes.mjs and web/test/keeping.mjs.
 
 import { byId, el, renew } from '../dom.js';
 import { MOST_LETTERS, withNote } from '../notes.js';

@@ -1,5 +1,6 @@
 // Two events in conflict, and the release and the grant between them: a row of up to four buttons, each of which goes to its event, and
 // their marks in the timeline, by number.
+// Tried by web/test/order.mjs.
 
 import { byId, chip, el, renew, svg, withCode } from '../dom.js';
 import { accessOf } from '../access.js';

@@ -1,5 +1,6 @@
 // Lists by hand: beside a source the list of each section, to be edited, in the assembly's words and in those of the source; and
 // whether they are enough, first by a word, and which lock is missing on request: who learns is to find it himself.
+// Tried by web/test/own.mjs.
 
 import { byId, el, renew, setText, withCode } from '../dom.js';
 import { acquireOf, functionAt, readProgram } from '../program.js';

@@ -1,4 +1,5 @@
 // Where the threads are in the text: chips beside their lines, the line of the last event, and those that are out of sight.
+// Tried by web/test/lecture.mjs.
 
 import { byId, chip, el, renew, whenDrawn } from '../dom.js';
 import { waitAt } from '../stretches.js';

@@ -1,5 +1,6 @@
 // The question before a step, its choices as buttons, and the count of hits. While it is asked, keys are those of its choices: the digits
 // would step other threads.
+// Tried by web/test/go.mjs.
 
 import { byId, chip, el, renew, setText, withCode } from '../dom.js';
 import { answer, drop, predict, question, setPredict } from '../predict.js';

@@ -1,5 +1,6 @@
 // Which lines of the text are drawn: all of a short one; of a long one those in sight, and some round them. The columns of the editor have
 // room for all, so that they scroll as if all were there.
+// Tried by web/test/large.mjs.
 
 import { byId, renew, textSize } from '../dom.js';
 

@@ -1,5 +1,6 @@
 // Each thread: what it is at, why it waits, its registers by variable name. Of more than eight those have a box that step or hold
 // something; the others would hide them.
+// Tried by web/test/views.mjs and web/test/panels.mjs.
 
 import { byId, el, chip, threadColour, count, renew, whenDrawn } from '../dom.js';
 import { functionAt } from '../program.js';

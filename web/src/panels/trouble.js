@@ -1,5 +1,6 @@
 // What could not be opened and why, in plain words. It stays until it is closed: a message that goes by itself is missed by who looks at
 // his files, and several files may be refused at once.
+// Tried by web/test/opening.mjs.
 
 import { byId, el, renew, withCode } from '../dom.js';
 

@@ -1,4 +1,5 @@
 // What the text does not say, below the program: each warning with its line, which a click marks.
+// Tried by web/test/warnings.mjs.
 
 import { byId, el, renew, withCode } from '../dom.js';
 import { pointTo } from '../pointed.js';
