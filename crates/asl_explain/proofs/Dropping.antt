@@ -1,7 +1,8 @@
 -- Locks that end at a `new`.
-use Rattle.std.proofs.Common.{◌≡◌, ◌↔◌, ◌+◌, ◌<◌, ◌≤◌, ◌⊎◌, ⊎_elim, ℕ, zero, suc, Bool, true, List, [], ◌∷◌, ◌++◌, length, map, take, get_or, Some, IfSome, slice_get, inl, inr, refl, sym, ap, ◌∙◌, subst, arith, eq-eqb, if◌then◌else◌}
-use Rattle.std.proofs.lemmas.Option.{same_Some}
-use Rattle.std.specs.List.{flat_map}
+use Rattle.std.proofs.Common.{◌≡◌, ◌≢◌, ◌↔◌, ◌+◌, ◌<◌, ◌≤◌, ◌⊎◌, ⊎_elim, ℕ, zero, suc, Bool, true, List, [], ◌∷◌, ◌++◌, length, map, take, get_or, Some, IfSome, slice_get, inl, inr, refl, sym, ap, ◌∙◌, subst, arith, eq-eqb, if◌then◌else◌}
+use Rattle.std.proofs.lemmas.Option.{same_Some, slice_get_within, get_or_from_slice_get}
+use Rattle.std.proofs.lemmas.Bool.{cases_lt}
+use Rattle.std.specs.List.{flat_map, AllPairs}
 use Rattle.std.proofs.Math.Nat.{eq-or-lt_of_le}
 use Rattle.asl_code.specs.declared.instr.Instr.TheVariants.{New}
 use Rattle.asl_code.specs.declared.lock.Base.{Base}
@@ -12,13 +13,14 @@ use Rattle.asl_lower.specs.Regions.{Inside}
 use Rattle.asl_lock_expr.specs.Links.{LinkContext, view, IsOne, is_register, settle, link}
 use Rattle.asl_lock_expr.specs.Stores.{stores}
 use Rattle.asl_lock_expr.specs.Order.{AreInOrder}
-use Rattle.asl_backward_flow.specs.Needed.{IsTold}
+use Rattle.asl_backward_flow.specs.Needed.{RegionNeeds, IsInNeeds, IsTold, HasNoPart}
 use Rattle.asl_emitter.proofs.Reducing.{one_of_more, more_of_one}
 use Rattle.asl_explain.specs.declared.explain_analysis.ExplainAnalysis.{ExplainAnalysis}
 use Rattle.asl_explain.specs.declared.explained_value.Ended.{Ended}
 use Rattle.asl_explain.specs.Chains.{Read, Needs, IsOn, IsDropped}
 use Rattle.asl_explain.specs.Explained.{IsEnding, AreEnded, AreAllEnded}
 use Rattle.asl_explain.specs.Analysed.{read, IsAnalysed, IsMadeAt, HasAdded, AreEndedBelow, AreEndedOf}
+use Rattle.asl_explain.specs.Endings.{Has, EndsSomewhere}
 use Rattle.asl_explain.proofs.Ends.{get_more, length_more, map_more, all_more as each_more}
 use Rattle.asl_explain.proofs.Under.{one_taken}
 
@@ -51,38 +53,64 @@ none_taken : (all : List Lock) (m : Lock) → ¬ IsOne (take 0 all) m
 none_taken [] m h = h
 none_taken (x ∷ xs) m h = h
 
-module _ (register : ℕ) where
-  pub added_one : (old new : List Lock) (l copy : Lock) → AreInOrder new → ((m : Lock) → IsOne new m ↔ (IsOne old m ⊎ (copy ≡ m))) → copy ≡ l → IsOn register l → HasAdded (λ m. (l ≡ m) × IsOn register m) old new
-  added_one old new l copy order ones same on = record {
+module _ (So : Lock → Type 0) where
+  pub added_one : (old new : List Lock) (l copy : Lock) → AreInOrder new → ((m : Lock) → IsOne new m ↔ (IsOne old m ⊎ (copy ≡ m))) → copy ≡ l → So l → HasAdded (λ m. (l ≡ m) × So m) old new
+  added_one old new l copy order ones same so = record {
     order = order;
     ones = λ m. (
-      λ o. ⊎_elim (λ h. inl h) (λ h. (let e : l ≡ m = sym same ∙ h in inr (e, subst (IsOn register) e on))) ((ones m).0 o),
+      λ o. ⊎_elim (λ h. inl h) (λ h. (let e : l ≡ m = sym same ∙ h in inr (e, subst So e so))) ((ones m).0 o),
       λ h. (ones m).1 (⊎_elim (λ k. inl k) (λ k. inr (same ∙ k.0)) h),
     );
   }
 
-  pub added_not : (old : List Lock) (l : Lock) → AreInOrder old → ¬ IsOn register l → HasAdded (λ m. (l ≡ m) × IsOn register m) old old
-  added_not old l order not = added_none (λ m. (l ≡ m) × IsOn register m) old order (λ m h. not (subst (IsOn register) (sym h.0) h.1))
+  pub added_not : (old : List Lock) (l : Lock) → AreInOrder old → ¬ So l → HasAdded (λ m. (l ≡ m) × So m) old old
+  added_not old l order not = added_none (λ m. (l ≡ m) × So m) old order (λ m h. not (subst So (sym h.0) h.1))
 
   module _ (all : List Lock) where
-    pub added_first : (old : List Lock) → AreInOrder old → HasAdded (λ m. IsOne (take 0 all) m × IsOn register m) old old
-    added_first old order = added_none (λ m. IsOne (take 0 all) m × IsOn register m) old order (λ m h. none_taken all m h.0)
+    pub added_first : (old : List Lock) → AreInOrder old → HasAdded (λ m. IsOne (take 0 all) m × So m) old old
+    added_first old order = added_none (λ m. IsOne (take 0 all) m × So m) old order (λ m h. none_taken all m h.0)
 
-    pub added_more : (old before new : List Lock) (i : ℕ) (d l : Lock) → i < length all → get_or all i d ≡ l → HasAdded (λ m. IsOne (take i all) m × IsOn register m) old before → HasAdded (λ m. (l ≡ m) × IsOn register m) before new
-        → HasAdded (λ m. IsOne (take (i + 1) all) m × IsOn register m) old new
+    pub added_more : (old before new : List Lock) (i : ℕ) (d l : Lock) → i < length all → get_or all i d ≡ l → HasAdded (λ m. IsOne (take i all) m × So m) old before → HasAdded (λ m. (l ≡ m) × So m) before new
+        → HasAdded (λ m. IsOne (take (i + 1) all) m × So m) old new
     added_more old before new i d l lt is one next =
-        added_both (λ m. IsOne (take i all) m × IsOn register m) (λ m. (l ≡ m) × IsOn register m) (λ m. IsOne (take (i + 1) all) m × IsOn register m) old before new one next
+        added_both (λ m. IsOne (take i all) m × So m) (λ m. (l ≡ m) × So m) (λ m. IsOne (take (i + 1) all) m × So m) old before new one next
         (λ m. (
           λ h. ⊎_elim (λ o. inl (o, h.1)) (λ e. inr (sym is ∙ e, h.1)) (one_of_more all i d m lt h.0),
           λ h. ⊎_elim (λ k. (more_of_one all i d m lt (inl k.0), k.1)) (λ k. (more_of_one all i d m lt (inr (is ∙ k.0)), k.1)) h,
         ))
 
-    pub added_all : (old new : List Lock) (i : ℕ) → length all ≤ i → HasAdded (λ m. IsOne (take i all) m × IsOn register m) old new → HasAdded (λ m. IsOne all m × IsOn register m) old new
-    added_all old new i le added =
-        added_same (λ m. IsOne (take i all) m × IsOn register m) (λ m. IsOne all m × IsOn register m) old new added
-        (λ m. (λ h. ((one_taken all i m le).0 h.0, h.1), λ h. ((one_taken all i m le).1 h.0, h.1)))
+    -- who is so is one of them
+    pub added_all : (old new : List Lock) (i : ℕ) → length all ≤ i → ((m : Lock) → So m → IsOne all m) → HasAdded (λ m. IsOne (take i all) m × So m) old new → HasAdded So old new
+    added_all old new i le ones added =
+        added_same (λ m. IsOne (take i all) m × So m) So old new added
+        (λ m. (λ h. h.1, λ so. ((one_taken all i m le).1 (ones m so), so)))
+
+-- ---- numbers in lists
+
+pub has_more : (xs : List ℕ) (x q : ℕ) → Has q xs → Has q (xs ++ x ∷ [])
+has_more [] x q h = let gone = slice_get_within [] h.0 q h.1 in absurd (omega (arith, gone))
+has_more (y ∷ xs) x q (zero, at) = (zero, at)
+has_more (y ∷ xs) x q (suc n, at) = let h = has_more xs x q (n, at) in (suc h.0, h.1)
+
+pub has_last : (xs : List ℕ) (x : ℕ) → Has x (xs ++ x ∷ [])
+has_last [] x = (zero, refl)
+has_last (y ∷ xs) x = let h = has_last xs x in (suc h.0, h.1)
 
 -- ---- where locks end
+
+placed_one : (xs : List Lock) (n : ℕ) (m : Lock) → slice_get xs n ≡ Some m → IsOne xs m
+placed_one [] n m at = cc
+placed_one (x ∷ xs) zero m at = inl (same_Some _ _ at)
+placed_one (x ∷ xs) (suc n) m at = inr (placed_one xs n m at)
+
+-- in a list of different locks each has one place
+once : (xs : List Lock) → AllPairs (λ a b. a ≢ b) xs → (i j : ℕ) (m : Lock) → slice_get xs i ≡ Some m → slice_get xs j ≡ Some m → i ≡ j
+once xs pairs i j m one other =
+    let alike : get_or xs i m ≡ get_or xs j m = get_or_from_slice_get xs i m m one ∙ sym (get_or_from_slice_get xs j m m other) in
+    elim (cases_lt i j) [
+      | inl before ↦ absurd (pairs i j m before (slice_get_within xs j m other) alike)
+      | inr behind ↦ ⊎_elim (λ (same : j ≡ i). sym same) (λ (after : j < i). absurd (pairs j i m after (slice_get_within xs i m one) (sym alike))) (eq-or-lt_of_le behind)
+    ]
 
 -- a lock on the register of a `new` becomes none
 none_of : (v : LinkContext) (to cells site : ℕ) (l : Lock) → IsOn to l → link v (New to cells site) l ≡ []
@@ -117,54 +145,37 @@ module _ (a : ExplainAnalysis) (number : ℕ) (s : Section) (there : slice_get a
         stands = d.at.stands;
       }
 
-  -- there is no `new` at the pc
-  pub none_made : (pc : ℕ) (old : List Lock) → AreInOrder old → ((to : ℕ) → ¬ IsMadeAt (read a) s pc to) → HasAdded (IsDropped (read a) number pc) old old
-  none_made pc old order none = added_none (IsDropped (read a) number pc) old order (λ m d. none d.to (made_dropped pc m d))
+  -- the flow has the part of the section at the place, and in it the lock by this number
+  module _ (known : IsAnalysed a) (place which : ℕ) (p : RegionNeeds) (l : Lock) (at : slice_get a.flow place ≡ Some p) (is : p.region ≡ Inside number) (named : slice_get p.locks which ≡ Some l) where
+    next : (pc : ℕ) → pc + 1 ≡ suc pc
+    next pc = omega arith
 
-  -- of the locks that are needed after a `new`, those on its register end there
-  pub added_dropped : IsAnalysed a → (pc to : ℕ) (locks old new : List Lock) → IsMadeAt (read a) s pc to → ((m : Lock) → IsOne locks m ↔ IsTold a.flow (Inside number) (pc + 1) m) → HasAdded (λ m. IsOne locks m × IsOn to m) old new
-      → HasAdded (IsDropped (read a) number pc) old new
-  added_dropped known pc to locks old new made told added =
-      added_same (λ m. IsOne locks m × IsOn to m) (IsDropped (read a) number pc) old new added
-      (λ m. (
-        λ h. dropped pc to m made h.1 (subst (λ q. Needs (read a) (Inside number) q m) next ((known.tells (Inside number) (pc + 1) m).0 ((told m).0 h.0))),
-        λ d. (
-          (told m).1 (subst (λ q. IsTold a.flow (Inside number) q m) (sym next) ((known.tells (Inside number) (suc pc) m).1 d.needed)),
-          subst (λ r. IsOn r m) (register (sym d.at.stands ∙ made.stands)) d.begins,
-        ),
-      ))
-    where
-      next : pc + 1 ≡ suc pc
-      next = omega arith
+    pub needed_of : (pc : ℕ) → (k : ℕ) × (slice_get p.needs k ≡ Some (pc + 1, which)) → Needs (read a) (Inside number) (suc pc) l
+    needed_of pc h = subst (λ q. Needs (read a) (Inside number) q l) (next pc) ((known.tells (Inside number) (pc + 1) l).0 (place, p, at, is, (which, h.0, h.1, named)))
 
-      register : {i j k p q r : ℕ} → Some (New i j k) ≡ Some (New p q r) → i ≡ p
-      register e = cc
+    pub needs_of : (pc : ℕ) → Needs (read a) (Inside number) (suc pc) l → (k : ℕ) × (slice_get p.needs k ≡ Some (pc + 1, which))
+    needs_of pc needed =
+        let told = (known.tells (Inside number) (suc pc) l).1 needed in
+        let same : told.0 ≡ place = known.flow.apart.distinct told.0 place told.1 p told.2 at (told.3 ∙ sym is) in
+        let part : told.1 ≡ p = same_Some _ _ (sym told.2 ∙ ap (slice_get a.flow) same ∙ at) in
+        let names : IsInNeeds p (suc pc) l = subst (λ (q : RegionNeeds). IsInNeeds q (suc pc) l) part told.4 in
+        let own : names.0 ≡ which = once p.locks (known.flow.apart.different place p at) names.0 which l names.3 named in
+        (names.1, subst (λ (n : ℕ). slice_get p.needs names.1 ≡ Some (pc + 1, n)) own (subst (λ (q : ℕ). slice_get p.needs names.1 ≡ Some (q, names.0)) (sym (next pc)) names.2))
 
-  -- the locks that end before a pc
-  abbrev pub Below : ℕ → Lock → Type 0
-  Below pc m = (q : ℕ) × (q < pc) × IsDropped (read a) number q m
+  -- who ends somewhere is a lock of the section's part
+  pub one_ended : IsAnalysed a → (place : ℕ) (p : RegionNeeds) (l : Lock) → slice_get a.flow place ≡ Some p → p.region ≡ Inside number → EndsSomewhere (read a) number l → IsOne p.locks l
+  one_ended known place p l at is ends =
+      let told = (known.tells (Inside number) (suc ends.0) l).1 ends.1.needed in
+      let same : told.0 ≡ place = known.flow.apart.distinct told.0 place told.1 p told.2 at (told.3 ∙ sym is) in
+      let part : told.1 ≡ p = same_Some _ _ (sym told.2 ∙ ap (slice_get a.flow) same ∙ at) in
+      let names : IsInNeeds p (suc ends.0) l = subst (λ (q : RegionNeeds). IsInNeeds q (suc ends.0) l) part told.4 in
+      placed_one p.locks names.0 l names.3
 
-  pub below_none : (locks : List Lock) → locks ≡ [] → HasAdded (Below s.acquire) [] locks
-  below_none locks is =
-      subst (λ (ls : List Lock). HasAdded (Below s.acquire) [] ls) (sym is)
-      (added_none (Below s.acquire) [] tt (λ m h. (let behind = (made_dropped h.0 m h.2).behind in let lt = h.1 in omega (arith, behind, lt))))
-
-  pub below_next : (pc : ℕ) (old before new : List Lock) → HasAdded (Below pc) old before → HasAdded (IsDropped (read a) number pc) before new → HasAdded (Below (pc + 1)) old new
-  below_next pc old before new one next =
-      added_both (Below pc) (IsDropped (read a) number pc) (Below (pc + 1)) old before new one next
-      (λ m. (
-        λ h.
-            let lt = h.1 in
-            let le : h.0 ≤ pc = omega (arith, lt) in
-            ⊎_elim (λ (same : h.0 ≡ pc). inr (subst (λ q. IsDropped (read a) number q m) same h.2)) (λ less. inl (h.0, less, h.2)) (eq-or-lt_of_le le),
-        λ h. ⊎_elim (λ k. (let lt = k.1 in (k.0, omega (arith, lt), k.2))) (λ k. (pc, omega arith, k)) h,
-      ))
-
-  -- those that end before the end of the section are all
-  pub below_end : (pc : ℕ) (old new : List Lock) → s.release ≤ pc → HasAdded (Below pc) old new → HasAdded (λ m. (q : ℕ) × IsDropped (read a) number q m) old new
-  below_end pc old new end added =
-      added_same (Below pc) (λ m. (q : ℕ) × IsDropped (read a) number q m) old new added
-      (λ m. (λ h. (h.0, h.2), λ d. (let ahead = (made_dropped d.0 m d.1).ahead in (d.0, omega (arith, ahead, end), d.1))))
+  -- where the flow has no part of the section, none ends
+  pub none_ended : IsAnalysed a → HasNoPart a.flow (Inside number) → (locks : List Lock) → locks ≡ [] → HasAdded (EndsSomewhere (read a) number) [] locks
+  none_ended known none locks empty =
+      subst (λ (ls : List Lock). HasAdded (EndsSomewhere (read a) number) [] ls) (sym empty)
+      (added_none (EndsSomewhere (read a) number) [] tt (λ m ends. (let told = (known.tells (Inside number) (suc ends.0) m).1 ends.1.needed in none told.0 told.1 told.2 told.3)))
 
 -- ---- with chains
 
@@ -187,7 +198,7 @@ mapped_one [] n e at = cc
 mapped_one (d ∷ es) zero e at = inl (ap (λ (x : Ended). x.lock) (same_Some _ _ at))
 mapped_one (d ∷ es) (suc n) e at = inr (mapped_one es n e at)
 
-pub ended_whole : (x : Read) (section : ℕ) (locks : List Lock) (es : List Ended) → HasAdded (λ m. (pc : ℕ) × IsDropped x section pc m) [] locks → AreEndedOf x section locks es → AreEnded x section es
+pub ended_whole : (x : Read) (section : ℕ) (locks : List Lock) (es : List Ended) → HasAdded (EndsSomewhere x section) [] locks → AreEndedOf x section locks es → AreEnded x section es
 ended_whole x section locks es added of = record {
   each = λ n e at. record {
     dropped = ⊎_elim (λ o. absurd o) (λ d. d) ((added.ones e.lock).0 (subst (λ (ls : List Lock). IsOne ls e.lock) of.same (mapped_one es n e at)));

@@ -4,5 +4,6 @@ pub mod ClassReasons
 pub mod Told
 -- Machinery of the proofs, not of the promise:
 pub mod Analysed
+pub mod Endings
 pub mod Lengths
 pub mod Telling

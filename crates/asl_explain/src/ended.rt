@@ -1,10 +1,10 @@
 //! The needs that end at a `new`, since the object is new there.
-ghost use Rattle.std.specs.Prelude.{◌≡◌, ℕ, [], Some, IfOk, IfSome, OnOk, slice_get};
-ghost use Rattle.asl_lock_expr.specs.Links.{IsOne};
+ghost use Rattle.std.specs.Prelude.{◌≡◌, ◌↔◌, ℕ, [], Some, IfOk, IfSome, OnOk, IsTrue, slice_get};
 ghost use Rattle.asl_lock_expr.specs.Order.{AreInOrder};
-ghost use Rattle.asl_explain.specs.Chains.{IsOn, IsDropped};
+ghost use Rattle.asl_explain.specs.Chains.{IsDropped};
 ghost use Rattle.asl_explain.specs.Explained.{IsEnding, AreEnded, AreAllEnded};
-ghost use Rattle.asl_explain.specs.Analysed.{read, IsAnalysed, HasAdded, AreEndedOf};
+ghost use Rattle.asl_explain.specs.Analysed.{read, IsAnalysed, IsMadeAt, HasAdded, AreEndedOf};
+ghost use Rattle.asl_explain.specs.Endings.{Has, IsPlaceOf, IsLockAt, EndsSomewhere};
 
 use crate::confirm::{is_ending, is_on, made_at, made_inside};
 use crate::explain_analysis::ExplainAnalysis;
@@ -17,51 +17,98 @@ use asl_lock_expr::add_in_order;
 use asl_lower::Section;
 use std::alloc::{AllocError, Global};
 
-/// Adds the lock if it begins on the register.
-fn add_if_on(register: u8, lock: &Lock, locks: &mut Vec<Lock>) -> Result<(), AllocError>
-    requires { AreInOrder locks.old.items }
-    ensures { OnOk result (HasAdded (λ m. (lock.now ≡ m) × IsOn register m) locks.old.items locks.new.items) }
+/// The pcs of the `new` of a section.
+fn news_of(
+    alloc: Global,
+    analysis: &ExplainAnalysis,
+    section: Section,
+) -> Result<Vec<u16>, AllocError>
+    ensures { IfOk result (λ v. (pc to : ℕ) → IsMadeAt (read analysis.now) section pc to → Has pc v.items) }
 {
-    if !is_on(register, lock) {
+    let mut news = Vec::new(alloc);
+    for pc in section.acquire..section.release {
+        if made_at(analysis, pc).is_some() {
+            news.push(pc)?;
+        }
+    }
+    Ok(news)
+}
+
+/// A section, by its number and its place in the flow.
+#[derive(Clone, Copy)]
+struct Place {
+    number: u16,
+    section: Section,
+    place: usize,
+}
+
+/// Whether a lock of a section, which the flow has by this number, ends at the pc: a `new` stands there that sets the register on which the
+/// lock begins, and the section needs the lock after it.
+fn ends_at(analysis: &ExplainAnalysis, at: Place, pc: u16, which: usize, lock: &Lock) -> bool
+    requires analysed { IsAnalysed analysis.now }
+    requires there { slice_get analysis.now.lowering.sections at.number ≡ Some at.section }
+    requires placed { IsLockAt analysis.now at.number at.place which lock.now }
+    ensures { IsTrue result ↔ IsDropped (read analysis.now) at.number pc lock.now }
+{
+    let Some(to) = made_inside(analysis, at.section, pc) else {
+        return false;
+    };
+    is_on(to, lock) && analysis.flow.needs(at.place, u32::from(pc) + 1, which)
+}
+
+/// Whether it ends at one of these pcs, which has each `new` of the section.
+fn ends(analysis: &ExplainAnalysis, at: Place, news: &[u16], which: usize, lock: &Lock) -> bool
+    requires analysed { IsAnalysed analysis.now }
+    requires there { slice_get analysis.now.lowering.sections at.number ≡ Some at.section }
+    requires placed { IsLockAt analysis.now at.number at.place which lock.now }
+    requires news { (pc to : ℕ) → IsMadeAt (read analysis.now) at.section pc to → Has pc news.now }
+    ensures { IsTrue result ↔ EndsSomewhere (read analysis.now) at.number lock.now }
+{
+    for pc in news {
+        if ends_at(analysis, at, *pc, which, lock) {
+            return true;
+        }
+    }
+    false
+}
+
+/// Adds a lock of a section, if it ends at a `new` of it.
+fn add_if_ended(
+    analysis: &ExplainAnalysis,
+    at: Place,
+    news: &[u16],
+    which: usize,
+    lock: &Lock,
+    locks: &mut Vec<Lock>,
+) -> Result<(), AllocError>
+    requires analysed { IsAnalysed analysis.now }
+    requires there { slice_get analysis.now.lowering.sections at.number ≡ Some at.section }
+    requires placed { IsLockAt analysis.now at.number at.place which lock.now }
+    requires news { (pc to : ℕ) → IsMadeAt (read analysis.now) at.section pc to → Has pc news.now }
+    requires order { AreInOrder locks.old.items }
+    ensures { OnOk result (HasAdded (λ m. (lock.now ≡ m) × EndsSomewhere (read analysis.now) at.number m) locks.old.items locks.new.items) }
+{
+    if !ends(analysis, at, news, which, lock) {
         return Ok(());
     }
     add_in_order(locks, copied(lock)?)?;
     Ok(())
 }
 
-/// Adds those of the locks that begin on the register.
-fn add_on(register: u8, all: &[Lock], locks: &mut Vec<Lock>) -> Result<(), AllocError>
-    requires { AreInOrder locks.old.items }
-    ensures { OnOk result (HasAdded (λ m. IsOne all.now m × IsOn register m) locks.old.items locks.new.items) }
-{
-    for lock in all {
-        add_if_on(register, lock, locks)?;
-    }
-    Ok(())
-}
-
-/// Adds the locks that the section of a number needs after a `new` at the pc that sets the register on which they begin.
-fn add_ended(
-    alloc: Global,
-    analysis: &ExplainAnalysis,
-    number: u16,
-    section: Section,
-    pc: u16,
-    locks: &mut Vec<Lock>,
-) -> Result<(), AllocError>
+/// The locks of a section at a place that end at a `new` of it, each once, in order.
+fn ended_at(alloc: Global, analysis: &ExplainAnalysis, at: Place) -> Result<Vec<Lock>, AllocError>
     requires analysed { IsAnalysed analysis.now }
-    requires there { slice_get analysis.now.lowering.sections number ≡ Some section }
-    requires order { AreInOrder locks.old.items }
-    ensures { OnOk result (HasAdded (IsDropped (read analysis.now) number pc) locks.old.items locks.new.items) }
+    requires there { slice_get analysis.now.lowering.sections at.number ≡ Some at.section }
+    requires placed { IsPlaceOf analysis.now at.number at.place }
+    ensures { IfOk result (λ v. HasAdded (EndsSomewhere (read analysis.now) at.number) [] v.items) }
 {
-    let Some(to) = made_inside(analysis, section, pc) else {
-        return Ok(());
-    };
-    let all = analysis
-        .flow
-        .at(alloc, Region::Section(number), u32::from(pc) + 1)?;
-    add_on(to, &all, locks)?;
-    Ok(())
+    let news = news_of(alloc, analysis, at.section)?;
+    let mut locks = Vec::new(alloc);
+    let all = analysis.flow.locks(at.place);
+    for (which, lock) in all.iter().enumerate() {
+        add_if_ended(analysis, at, &news, which, lock, &mut locks)?;
+    }
+    Ok(locks)
 }
 
 /// The locks that a section needs after a `new` of it that sets the register on which they begin, each once, in order.
@@ -73,28 +120,20 @@ fn ended_locks(
 ) -> Result<Vec<Lock>, AllocError>
     requires analysed { IsAnalysed analysis.now }
     requires there { slice_get analysis.now.lowering.sections number ≡ Some section }
-    ensures { IfOk result (λ v. HasAdded (λ m. (pc : ℕ) × IsDropped (read analysis.now) number pc m) [] v.items) }
+    ensures { IfOk result (λ v. HasAdded (EndsSomewhere (read analysis.now) number) [] v.items) }
 {
-    let mut locks = Vec::new(alloc);
-    for pc in section.acquire..section.release {
-        add_ended(alloc, analysis, number, section, pc, &mut locks)?;
+    match analysis.flow.place(Region::Section(number)) {
+        Some(place) => ended_at(
+            alloc,
+            analysis,
+            Place {
+                number,
+                section,
+                place,
+            },
+        ),
+        None => Ok(Vec::new(alloc)),
     }
-    Ok(locks)
-}
-
-/// The pcs of the `new` of a section.
-fn news_of(
-    alloc: Global,
-    analysis: &ExplainAnalysis,
-    section: Section,
-) -> Result<Vec<u16>, AllocError> {
-    let mut news = Vec::new(alloc);
-    for pc in section.acquire..section.release {
-        if made_at(analysis, pc).is_some() {
-            news.push(pc)?;
-        }
-    }
-    Ok(news)
 }
 
 /// The `new` and the chain that a search found, if the chain comes to the lock after the `new`, and the lock ends there.
