@@ -1,12 +1,12 @@
 /* Sections under the lock forest and the queue of asl.h, which are proved, under one guard (asl_holding.h says when which).
  *
- * A list is evaluated under the guard, and what it asks for is granted or refused before the guard is given up. Cells need not be atomic for
- * that: a cell that another thread covers for writing is not read, but refused at once (docs/RACES.md, "Tries").
+ * A list that reads cells is evaluated under the guard, and what it asks for is granted or refused before the guard is given up. Cells need not
+ * be atomic for that: a cell that another thread covers for writing is not read, but refused at once (docs/RACES.md, "Tries").
  *
- * Who is refused waits in a queue, as docs/LOCKS.md, "The queue", says: nobody goes first who comes later and asks what clashes. Each who waits
- * stands behind one who is in his way, and holds or waits before him. Who gives back looks at those who stand behind him: each finds another who is
- * in his way, or what his list asks for now is granted. So only those are woken who go on, and the others cost nothing. They look a moment before
- * they sleep. A thread has a number in the forest only while it holds something. */
+ * Who is refused waits in a queue, as docs/LOCKS.md, "The queue", says: nobody goes first who comes later and asks what clashes with what was asked
+ * at the last look. Each who waits stands behind one who is in his way, and holds or waits before him. Who gives back looks at those who stand behind
+ * him, first come first: each finds another who is in his way, or what his list asks for now is granted. So only those are woken who go on, and the
+ * others cost nothing. They look a moment before they sleep. A thread has a number in the forest only while it holds something. */
 #define _POSIX_C_SOURCE 200809L
 #include "asl_holding.h"
 #include <stdlib.h>
@@ -157,10 +157,11 @@ static void ask_lock(forest_thread *my, const aslr_lock *lock) {
   my->writes = my->writes || lock->mode == ASL_X;
 }
 
+/* Also behind a cell that is held back: whoever comes later and clashes with what is known of the list does not go first. */
 static void evaluate(forest_thread *my) {
   my->asked.count = 0;
   my->held_back = my->writes = false;
-  for (uint32_t i = 0; i < my->of->count && !my->held_back; i++) ask_lock(my, &my->of->locks[i]);
+  for (uint32_t i = 0; i < my->of->count; i++) ask_lock(my, &my->of->locks[i]);
 }
 
 /* ---- under the guard: the queue, and grants */
@@ -205,7 +206,7 @@ static forest_thread *holds_before(const forest_engine *engine, const forest_thr
   return NULL;
 }
 
-/* No more behind the one it stood behind; `other` may be NULL. */
+/* No more behind the one it stood behind, but behind another, among those there by their turns; `other` may be NULL. */
 static void stand_behind(forest_thread *my, forest_thread *other) {
   if (my->behind) {
     *(my->last_behind ? &my->last_behind->next_behind : &my->behind->first_follower) = my->next_behind;
@@ -213,10 +214,12 @@ static void stand_behind(forest_thread *my, forest_thread *other) {
   }
   my->behind = other;
   if (!other) return;
-  my->next_behind = NULL;
-  my->last_behind = other->last_follower;
-  *(other->last_follower ? &other->last_follower->next_behind : &other->first_follower) = my;
-  other->last_follower = my;
+  forest_thread *last = other->last_follower;
+  while (last && last->turn > my->turn) last = last->last_behind;
+  my->last_behind = last;
+  my->next_behind = last ? last->next_behind : other->first_follower;
+  *(last ? &last->next_behind : &other->first_follower) = my;
+  *(my->next_behind ? &my->next_behind->last_behind : &other->last_follower) = my;
 }
 
 static void begin_to_wait(forest_engine *engine, forest_thread *my) {
@@ -284,13 +287,14 @@ static bool look_again(forest_engine *engine, forest_thread *my, bool *other) {
 }
 
 /* Who is in the way of one who waits, for what he asked: the one he stands behind, if that one still is; one of those who have just gone on, a list
- * by `next`; or one who waits before. NULL: he must be looked at. */
+ * by `next`; another who holds, of whom there are few; or one who waits before. NULL: he must be looked at. */
 static forest_thread *still_before(const forest_engine *engine, const forest_thread *my, forest_thread *go) {
   forest_thread *other = my->behind;
   if (other && (other->holds || (other->turn && other->turn < my->turn)) && clash(&other->asked, &my->asked)) return other;
   for (; go; go = go->next)
     if (go->holds && clash(&go->asked, &my->asked)) return go;
-  return waits_before(engine, my);
+  forest_thread *holding = holds_before(engine, my);
+  return holding ? holding : waits_before(engine, my);
 }
 
 static void look_at(forest_engine *engine, forest_thread *my, forest_thread **go, bool *other) {

@@ -55,7 +55,7 @@ static uint32_t read_lists(aslr_runtime *made, const aslr_program *program) {
 
 /* Memory for objects, of one alignment; NULL where there is none. */
 static void *allocate(mine *self, size_t bytes) {
-  if ((size_t)(self->free_end - self->free_at) < bytes) {
+  if (!self->free_at || (size_t)(self->free_end - self->free_at) < bytes) {
     block *made = aligned_alloc(64, BLOCK);
     if (!made) return NULL;
     aslr_runtime *runtime = self->thread.runtime;

@@ -11,10 +11,10 @@
  * who gave it back before. So of accesses in conflict one happens before the other; each load sees the last store before it; and sections in an
  * order that goes with `happens before` do the same one after the other. An evaluation that reads while others store asks for words, and no more.
  *
- * A word counts the threads that hold a mode with the 1, the 2, the 4 and the 8 (docs/LOCKS.md), and those that wait to write all that is
- * below: once one waits, nobody else comes in. Who gives back wakes those who can come in now, of writers one. Leaves share words by a hash, which
- * costs waiting. A node at which no two requests can clash has
- * no word: the root where no list names it, a class that no list names. */
+ * A word counts the threads that hold a mode with the 1, the 2, the 4 and the 8 (docs/LOCKS.md), and those that wait to write what is below, all of it
+ * or a part: once one waits, nobody comes in but others who write there, so readers do not keep a writer out. Who gives back wakes those who can come in
+ * now, of those who write all one. Leaves share words by a hash, which costs waiting. A node at which no two requests can clash has no word: the root
+ * where no list names it, a class that no list names. */
 #define _POSIX_C_SOURCE 200809L
 #include "inside.h"
 #include <stdlib.h>
@@ -178,25 +178,26 @@ static void wait_for(mine *self, uint64_t at, uint64_t clash) {
   sleep_for(engine, &my->asleep);
 }
 
+/* Who wants to write below and is kept out says so once in the word, and no longer waits for others who have said so. */
 static void take(mine *self, uint64_t at, uint8_t mode) {
   _Atomic uint64_t *word = &of_runtime(self->thread.runtime)->nodes[at].word;
-  const bool writes = mode & 8;
-  const uint64_t clash = what_clashes(mode) | (writes ? 0 : ALL_WAIT);
+  const uint64_t held = what_clashes(mode);
+  uint64_t clash = held | (mode & 8 ? 0 : ALL_WAIT);
   uint64_t added = what_is_added(mode);
-  bool waited = false;
+  bool waited = false, told = false;
   uint64_t w = atomic_load_explicit(word, memory_order_relaxed);
   for (;;) {
     if (!(w & clash)) {
       if (atomic_compare_exchange_weak_explicit(word, &w, w + added, memory_order_acquire, memory_order_relaxed)) return;
       continue;
     }
-    if (!waited) {
-      waited = true;
-      self->thread.counts.refusals++;
-      if (writes) {
-        atomic_fetch_add_explicit(word, ONE_WAITS, memory_order_relaxed);
-        added -= ONE_WAITS;
-      }
+    if (!waited) self->thread.counts.refusals++;
+    waited = true;
+    if (mode & 2 && !told && w & held) {
+      told = true;
+      atomic_fetch_add_explicit(word, ONE_WAITS, memory_order_relaxed);
+      added -= ONE_WAITS;
+      clash = held;
     }
     wait_for(self, at, clash);
     w = atomic_load_explicit(word, memory_order_relaxed);
