@@ -17,6 +17,10 @@
 #ifndef ASL_RUNTIME_H
 #define ASL_RUNTIME_H
 
+#if defined __cplusplus || !defined __STDC_VERSION__ || __STDC_VERSION__ < 201112L
+#error "asl_runtime.h wants C11 or later: -std=c11 or -std=gnu11 (C++ takes asl.h alone)"
+#endif
+
 #include "asl.h"
 #include <setjmp.h>
 #include <stdatomic.h>
