@@ -50,12 +50,11 @@ void aslr_out(aslr_thread *t, aslr_value a) {
 }
 
 static void print_fault(const aslr_thread *t) {
-  static const char *const NAMES[] = {"Type", "Null", "Bounds", "Unprotected", "Full", "Stack", "Open", "Deep", "NoSection"};
   if (t->ended_by == ASLR_FAULT_UNPROTECTED)
     printf("%u fault Unprotected %u.%u %s\n", t->number, aslr_object_of(t->fault_at)->number, aslr_offset_of(t->fault_at),
            t->fault_writes ? "write" : "read");
   else
-    printf("%u fault %s\n", t->number, NAMES[t->ended_by]);
+    printf("%u fault %s\n", t->number, aslr_fault_name(t->ended_by));
 }
 
 /* ---- a thread */
@@ -113,11 +112,7 @@ static bool read_usage(int argc, char **argv, usage *into) {
 }
 
 static int refused(uint32_t status) {
-  const char *why = "BadProgram";
-  if (status == ASLR_NO_MEMORY) why = "OutOfMemory";
-  if (status == ASLR_BAD_COUNT) why = "BadCount";
-  if (status == ASLR_BAD_ENGINE) why = "BadEngine";
-  fprintf(stderr, "asl: %s\n", why);
+  fprintf(stderr, "asl: %s\n", aslr_status_name(status));
   return REFUSED;
 }
 

@@ -5,11 +5,37 @@
 #endif
 #include "inside.h"
 #include <sched.h>
+#include <stdio.h>
 #include <stdlib.h>
 #include <string.h>
 #include <unistd.h>
 
 enum { MOST_OBJECTS = 65536, MOST_CLASSES = 65536, MOST_LOCKS = 256, MOST_LISTS = 65536, BLOCK = 1 << 16, NAMES_AT_ONCE = 1 << 20, SPIN_NS = 50000 };
+
+/* ---- names */
+
+const char *aslr_fault_name(aslr_fault_kind fault) {
+  static const char *const NAMES[] = {"Type", "Null", "Bounds", "Unprotected", "Full", "Stack", "Open", "Deep", "NoSection"};
+  return (size_t)fault < sizeof NAMES / sizeof *NAMES ? NAMES[fault] : "NoSuchFault";
+}
+
+const char *aslr_status_name(uint32_t status) {
+  switch (status) {
+    case ASLR_OK: return "Ok";
+    case ASLR_NO_MEMORY: return "OutOfMemory";
+    case ASLR_BAD_COUNT: return "BadCount";
+    case ASLR_BAD_PROGRAM: return "BadProgram";
+    case ASLR_NULL_POINTER: return "NullPointer";
+    case ASLR_BAD_ENGINE: return "BadEngine";
+    case ASLR_IN_USE: return "InUse";
+    case ASLR_BAD_SECTION: return "BadSection";
+    case ASLR_TOO_DEEP: return "TooDeep";
+    case ASLR_NO_SECTION: return "NoSection";
+    case ASLR_FULL: return "Full";
+    case ASLR_BAD_SIZE: return "BadSize";
+    default: return "NoSuchStatus";
+  }
+}
 
 /* ---- programs */
 
@@ -223,6 +249,7 @@ static void begin_anew(aslr_thread *thread) {
   thread->frames = 1;
   thread->number = 0;
   thread->counts = (aslr_counts){0};
+  memset(&thread->failed, 0, sizeof thread->failed);
   thread->status = ASLR_OK;
   thread->ended_by = ASLR_FAULT_TYPE;
   thread->fault_at = 0;
@@ -324,7 +351,22 @@ bool aslr_may_access(aslr_thread *thread, aslr_value at, bool writes) {
 
 /* ---- for emitted programs */
 
+/* Whether nobody has set where a thread goes on that fails: all is 0, as begin_anew leaves it. C does not promise that setjmp writes anything
+ * else. It has to keep where the stack and the code are, and on no machine that is known both are told by zeros. */
+static bool has_no_way_on(const aslr_thread *t) {
+  static const jmp_buf AT_FIRST;
+  return memcmp(t->failed, AT_FIRST, sizeof AT_FIRST) == 0;
+}
+
+/* A jump would lead anywhere. What the thread holds is left as it is, for who looks at the process afterwards. */
+static _Noreturn void end_process(const aslr_thread *t, uint32_t status) {
+  const char *kind = status == ASLR_OK ? "fault " : "", *name = status == ASLR_OK ? aslr_fault_name(t->ended_by) : aslr_status_name(status);
+  fprintf(stderr, "asl: %s%s outside setjmp(t->failed)\n", kind, name);
+  abort();
+}
+
 void aslr_stop(aslr_thread *t, uint32_t status) {
+  if (has_no_way_on(t)) end_process(t, status);
   aslr_abandon(t);
   t->frames = 1;
   t->status = status;

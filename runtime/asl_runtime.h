@@ -13,6 +13,8 @@
  *  - A signal handler calls nothing of this header, and does not jump out of it. A signal that is handled disturbs nothing.
  *  - After a fork the child uses those runtimes alone that no other thread of the system was using.
  *  - Who leaves an entry otherwise than by its return goes by aslr_fault or aslr_stop.
+ *  - Who calls an entry, or a function of the part "what an emitted program does", has called setjmp(t->failed) before, in a function that has
+ *    not returned yet.
  *  - Who waits in a section, for a section of another runtime or for a lock of C's own, sees to it that nobody waits in a circle. */
 #ifndef ASL_RUNTIME_H
 #define ASL_RUNTIME_H
@@ -147,6 +149,10 @@ typedef enum {
   ASLR_FAULT_DEEP, ASLR_FAULT_NO_SECTION
 } aslr_fault_kind;
 
+/* The names that printed programs have for faults, such as "Unprotected", and for statuses of this header, such as "OutOfMemory". */
+const char *aslr_fault_name(aslr_fault_kind fault);
+const char *aslr_status_name(uint32_t status);
+
 /* Of a thread C may read what stands here; it writes `number`, `failed` and `before_access` alone. */
 typedef struct aslr_thread {
   aslr_runtime *runtime;
@@ -156,7 +162,7 @@ typedef struct aslr_thread {
   uint64_t section;        /* names this section among those of all threads; 0: the thread is in none */
   const aslr_value *globals;
   aslr_counts counts;
-  jmp_buf failed;          /* C sets it: an emitted function that fails goes on there */
+  jmp_buf failed;          /* C sets it: an emitted function that fails goes on there. Where nobody has, it says so, and the process is aborted */
   uint32_t status;         /* then: ASLR_OK, and the fault, or why it could not go on, such as ASLR_NO_MEMORY */
   aslr_fault_kind ended_by;
   aslr_value fault_at;     /* of Unprotected: the cell, and whether it was to be written */

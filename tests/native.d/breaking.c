@@ -1,6 +1,7 @@
 /* What may go wrong around sections, under both engines: cells outside of objects; threads that are opened again, too many of them, cancelled
  * while they wait, and given up in sections; crowds that wait; runtimes that are closed as soon as they may be; signals; a process that was forked;
- * lists as long as they may be; and a heap whose objects change their shape while lists are evaluated. */
+ * who fails where nobody has set where to go on; lists as long as they may be; and a heap whose objects change their shape while lists are
+ * evaluated. */
 #define _POSIX_C_SOURCE 200809L
 #ifdef __linux__
 #define _GNU_SOURCE /* for sched_setaffinity */
@@ -421,6 +422,45 @@ static void goes_on_in_a_fork(void) {
   MUST(child > 0 && waitpid(child, &status, 0) == child && status == 0);
 }
 
+/* ---- who fails where nobody has set where to go on */
+
+static void loads_null(aslr_thread *t) { aslr_load(t, ASLR_NULL); }
+static void lacks_lock(aslr_thread *t) { aslr_check(t, aslr_global(t->runtime, 0), true); }
+static void lacks_memory(aslr_thread *t) { aslr_stop(t, ASLR_NO_MEMORY); }
+
+/* a thread that was another's, who had set it */
+static aslr_thread *handed_on(aslr_runtime *runtime) {
+  aslr_thread *t = thread_of(runtime);
+  if (setjmp(t->failed)) MUST(false);
+  MUST(aslr_thread_close(t) == ASLR_OK && thread_of(runtime) == t);
+  return t;
+}
+
+/* A process that does this says why it cannot go on, and is aborted. */
+static void says_and_aborts(void (*fails)(aslr_thread *), const char *wanted) {
+  aslr_runtime *runtime = opened_for(&program, 0);
+  aslr_thread *t = handed_on(runtime);
+  int ends[2], status = 0;
+  char said[128] = {0};
+  MUST(pipe(ends) == 0);
+  pid_t child = fork();
+  if (child == 0) {
+    setrlimit(RLIMIT_CORE, &(struct rlimit){0, 0});
+    dup2(ends[1], STDERR_FILENO);
+    fails(t);
+    _exit(0);
+  }
+  MUST(child > 0 && close(ends[1]) == 0 && waitpid(child, &status, 0) == child && WIFSIGNALED(status) && WTERMSIG(status) == SIGABRT);
+  MUST(read(ends[0], said, sizeof said - 1) > 0 && strcmp(said, wanted) == 0 && close(ends[0]) == 0);
+  end(runtime, t);
+}
+
+static void goes_on_nowhere(void) {
+  says_and_aborts(loads_null, "asl: fault Null outside setjmp(t->failed)\n");
+  says_and_aborts(lacks_lock, "asl: fault Unprotected outside setjmp(t->failed)\n");
+  says_and_aborts(lacks_memory, "asl: OutOfMemory outside setjmp(t->failed)\n");
+}
+
 /* ---- a heap whose objects change their shape */
 
 static atomic_bool stops;
@@ -501,6 +541,7 @@ int main(void) {
   for (int e = 0; e < 2; e++) {
     engine = e ? ASLR_WORDS : ASLR_FOREST;
     goes_on_in_a_fork();
+    goes_on_nowhere();
     stays_in_objects();
     is_opened_anew();
     opens_many();

@@ -50,7 +50,6 @@ void aslr_out(aslr_thread *t, aslr_value a) {
 }
 
 static void tell_end(aslr_thread *t, aslr_value done) {
-  static const char *const NAMES[] = {"Type", "Null", "Bounds", "Unprotected", "Full", "Stack", "Open", "Deep", "NoSection"};
   FILE *to = said[t->number];
   if (t->frames == 0) {
     fprintf(to, "%u done ", t->number);
@@ -58,7 +57,7 @@ static void tell_end(aslr_thread *t, aslr_value done) {
   } else if (t->status != ASLR_OK) {
     fprintf(to, "%u status %u\n", t->number, t->status);
   } else {
-    fprintf(to, "%u fault %s\n", t->number, NAMES[t->ended_by]);
+    fprintf(to, "%u fault %s\n", t->number, aslr_fault_name(t->ended_by));
   }
 }
 

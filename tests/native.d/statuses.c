@@ -6,6 +6,7 @@
 #include <pthread.h>
 #include <stdio.h>
 #include <stdlib.h>
+#include <string.h>
 #include <time.h>
 
 static int passed;
@@ -21,6 +22,19 @@ static void must(int line, bool holds) {
 
 /* in which another thread will have begun to wait, on a busy machine too */
 static void moment(void) { nanosleep(&(struct timespec){0, 300000000}, NULL); }
+
+/* ---- names: of a fault that of docs/INSTRUCTIONS.md, of a status that of its constant, but for what printed programs have always said */
+
+static void names_them(void) {
+  static const char *const FAULTS[] = {"Type", "Null", "Bounds", "Unprotected", "Full", "Stack", "Open", "Deep", "NoSection"};
+  static const struct { uint32_t status; const char *name; } STATUSES[] = {
+    {ASLR_OK, "Ok"}, {ASLR_NO_MEMORY, "OutOfMemory"}, {ASLR_BAD_COUNT, "BadCount"}, {ASLR_BAD_PROGRAM, "BadProgram"},
+    {ASLR_NULL_POINTER, "NullPointer"}, {ASLR_BAD_ENGINE, "BadEngine"}, {ASLR_IN_USE, "InUse"}, {ASLR_BAD_SECTION, "BadSection"},
+    {ASLR_TOO_DEEP, "TooDeep"}, {ASLR_NO_SECTION, "NoSection"}, {ASLR_FULL, "Full"}, {ASLR_BAD_SIZE, "BadSize"}, {99, "NoSuchStatus"}};
+  for (int f = 0; f <= ASLR_FAULT_NO_SECTION; f++) MUST(strcmp(aslr_fault_name((aslr_fault_kind)f), FAULTS[f]) == 0);
+  MUST(strcmp(aslr_fault_name((aslr_fault_kind)(ASLR_FAULT_NO_SECTION + 1)), "NoSuchFault") == 0);
+  for (size_t s = 0; s < sizeof STATUSES / sizeof *STATUSES; s++) MUST(strcmp(aslr_status_name(STATUSES[s].status), STATUSES[s].name) == 0);
+}
 
 /* ---- a program: two globals of class 0, and objects of class 1 */
 
@@ -257,6 +271,7 @@ static void refuses_waiters(void) {
 }
 
 int main(void) {
+  names_them();
   refuses_programs();
   for (int e = 0; e < 2; e++) {
     engine = e ? ASLR_WORDS : ASLR_FOREST;
