@@ -10,7 +10,7 @@
 #include <stdio.h>
 #include <stdlib.h>
 
-enum { GLOBALS = 4, ACCOUNTS = 4, MOST = 16, MAX_SOURCE = 1 << 16 };
+enum { GLOBALS = 4, ACCOUNTS = 4, MOST = 16, MOST_REGISTERS = 64, MAX_SOURCE = 1 << 16 };
 
 static void must(bool holds, const char *what) {
   if (holds) return;
@@ -52,13 +52,16 @@ static bool is_being_written(uint32_t thread, uint32_t threads, uint16_t global)
   return false;
 }
 
-/* the request of the list for a transfer between two globals: how many nodes, or 0 where a cell may not be read now */
-static size_t evaluate(asl_program *program, uint32_t list, uint32_t thread, unsigned from, unsigned to) {
-  asl_value registers[2] = {{ASL_ADDRESS, 0, (uint16_t)from}, {ASL_ADDRESS, 0, (uint16_t)to}};
-  asl_view view = {registers, 2, objects, GLOBALS, cells, 0};
+/* The request of the section's list for a transfer between two globals: how many nodes, or 0 where a cell may not be read now. All registers of
+ * the function are shown: one that is not would hold no address, and nothing would be asked for it. */
+static size_t evaluate(asl_program *program, const asl_section *section, uint32_t thread, unsigned from, unsigned to) {
+  asl_value registers[MOST_REGISTERS] = {{ASL_ADDRESS, 0, (uint16_t)from}, {ASL_ADDRESS, 0, (uint16_t)to}};
+  asl_function function;
+  must(asl_program_function(program, section->function, &function) == ASL_OK, "a function");
+  asl_view view = {registers, function.registers, objects, GLOBALS, cells, 0};
   asl_request request;
   uint32_t status;
-  while ((status = asl_list_request(program, list, &view, asks, 3 * MOST, &request)) == ASL_NEEDS_CELL) {
+  while ((status = asl_list_request(program, section->list, &view, asks, 3 * MOST, &request)) == ASL_NEEDS_CELL) {
     printf("reads the cell of global %u\n", request.object);
     if (is_being_written(thread, 2, request.object)) return 0;
     tell(&view, &request);
@@ -94,7 +97,7 @@ int main(void) {
   }
 
   puts("thread 0, from ann to bob:");
-  count = evaluate(&program, transfer.list, 0, 0, 1);
+  count = evaluate(&program, &transfer, 0, 0, 1);
   print_asks(count);
   must(asl_queue_acquire(&queue, 0, asks, count) == ASL_OK, "it is granted");
   must(asl_queue_release(&queue, 0, named, 2, &count) == ASL_OK && count == 0, "nobody waits");
@@ -102,7 +105,7 @@ int main(void) {
   puts("thread 1 writes bob; thread 0, from ann to bob:");
   asl_ask writes[3] = {{ASL_ROOT, ASL_IX, 0, 0, 0}, {ASL_CLASS, ASL_IX, 0, objects[1].klass, 0}, {ASL_LEAF, ASL_X, 0, objects[1].klass, 1}};
   must(asl_queue_acquire(&queue, 1, writes, 3) == ASL_OK, "it is granted");
-  if (evaluate(&program, transfer.list, 0, 0, 1) == 0) puts("is refused before it reads");
+  if (evaluate(&program, &transfer, 0, 0, 1) == 0) puts("is refused before it reads");
   must(asl_queue_free(&queue) == ASL_OK && asl_program_close(&program) == ASL_OK, "closed");
   return 0;
 }
