@@ -97,7 +97,7 @@ class AnswerReader {
     else if (row === LAST) this.hasEnd = true;
     else if (word === 'answer') this.title = said;
     else if (!this.title) this.refuse(line, 'the first line is "answer" and the title of the lesson');
-    else if (word === 'by') this.by = said.slice(0, 80);
+    else if (word === 'by') this.by = said.slice(0, 80); // so many letters of a name are kept, for a table's column
     else if (word === 'lesson') this.refuse(line, this.takeLesson(said, text));
     else if (word === 'step') this.refuse(line, this.begin(said));
     else if (!Object.hasOwn(OF_A_STEP, word)) this.refuse(line, `"${word}" is no word of an answer`);

@@ -1,4 +1,5 @@
-//! The lines of instructions in an assembly text.
+//! The lines of instructions in an assembly text. Each is written from its end to its front (`line_piece.rt`), so what comes last is put
+//! first. A piece has room for 64 bytes: hence the bound on a word, of which the longest has six letters.
 ghost use Rattle.asl_code.specs.declared.lock.Lock.TheVariants as lock;
 ghost use Rattle.asl_assembler.specs.declared.line.Line.TheVariants as line;
 ghost use Rattle.std.specs.Prelude.{◌≡◌, ◌≤◌, [], ◌∷◌, ◌++◌, length, OnOk, codes};

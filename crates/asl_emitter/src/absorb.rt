@@ -29,7 +29,7 @@ fn are_same_expr(expr: &Expr, other: &Expr) -> bool
     expr == other
 }
 
-/// Whether the first lock does in place of the second.
+/// Whether the first lock does in place of the second. Callers above ask this; a list is reduced by `is_free`.
 pub fn suffices_for(classes: &Classes, function: u16, lock: &Lock, other: &Lock) -> bool
     ensures { IsTrue result ↔ SufficesFor classes.now function lock.now other.now }
 {

@@ -18,8 +18,8 @@ pub record Cover : Type 0 where
 abbrev pub cover : Holding → List ℕ → Cover
 cover holding fresh = record { holding = holding; fresh = fresh }
 
--- whether a cell of an object of the class is covered for the thread: its object is fresh for the thread, or what the
--- thread holds covers it
+-- whether a cell of an object of the class is covered for the thread: its object is fresh for the thread, made in the section
+-- that it is in, and needs no lock; or what the thread holds covers it
 abbrev pub allows : Cover → ℕ → Cell → ℕ → Effect → Bool
 allows c thread cell class effect = is_fresh c.fresh cell.object || is_covered c.holding thread cell class effect
 

@@ -222,7 +222,7 @@ fn reply(fate: Fate) -> Reply
     }
 }
 
-/// A thread that fails gives all its locks back.
+/// A thread that a fault stops, in a section or outside, gives all its locks back.
 fn give_back(forest: &mut Forest, t: u32, fate: Fate)
     requires { t < forest.old.threads }
     ensures holding { forest.new.holding ≡ holding_after fate t forest.old.holding }

@@ -20,8 +20,8 @@ loop-pc-preserved c q to below made =
           let is : c.if-is_some.news.items ≡ old = search rules in
           subst (Has q) (sym is)
           (⊎_elim (λ (same : q ≡ pc).
-              let told : c.made_at.result ≡ Some to = c.made_at.ensures.all to made.cells made.site (subst (λ n. slice_get c.args.analysis.now.lowering.code n ≡ Some (New to made.cells made.site)) same made.stands) in
-              absurd (true≢false (sym (c.is_some.ensures ∙ ap is_some told) ∙ w.if-is_some.false))) (λ (less : q < pc). c.loop-pc.invariant q to less made) (eq-or-lt_of_le (omega (arith, below))))
+          let told : c.made_at.result ≡ Some to = c.made_at.ensures.all to made.cells made.site (subst (λ n. slice_get c.args.analysis.now.lowering.code n ≡ Some (New to made.cells made.site)) same made.stands) in
+          absurd (true≢false (sym (c.is_some.ensures ∙ ap is_some told) ∙ w.if-is_some.false))) (λ (less : q < pc). c.loop-pc.invariant q to less made) (eq-or-lt_of_le (omega (arith, below))))
     ]
 
 pub returns : goal.returns
