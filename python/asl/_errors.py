@@ -75,6 +75,7 @@ class NeedsCell(ProgramError):
 
     def __init__(self, cell: Tuple[int, int]):
         super().__init__(NEEDS_CELL)
+        self.args = (f"{self.name}: cell {cell[1]} of the object at place {cell[0]} was not told",)
         self.cell = cell
 
 

@@ -9,6 +9,8 @@ from ._commands import Lock, Text, answer, lock_of
 
 Entry = Dict[str, Any]
 
+_LIMITS = {*map(str, range(9)), "auto"}
+
 
 @dataclasses.dataclass(frozen=True)
 class Place:
@@ -136,10 +138,14 @@ def document_of(text: str) -> Document:
         text)
 
 
-def lists(source: Text, k: Union[int, str] = 3, entries: Iterable[str] = ()) -> Document:
-    """All that is told of the lists of a source: `k` is 0 to 8, or 'auto' for the greatest that is accepted. Where entries are named,
-    the source has no `main`, and one is added behind it that calls each of them by a function of its own."""
+def lists(source: Text, k: Union[int, str] = 3, entries: Union[str, Iterable[str]] = ()) -> Document:
+    """All that is told of the lists of a source: `k` is 0 to 8, or 'auto' for the greatest that is accepted. Where entries are named, by one
+    name or by several, the source has no `main`, and one is added behind it that calls each of them by a function of its own."""
+    if str(k) not in _LIMITS:
+        raise ValueError(f"k is a number from 0 to 8 or 'auto', not {k!r}")
     words = ["lists", "--k", str(k)]
-    for entry in entries:
+    for entry in [entries] if isinstance(entries, str) else entries:
+        if not isinstance(entry, str):
+            raise TypeError(f"an entry is the name of a function, not {entry!r}")
         words += ["--entry", entry]
     return document_of(answer(words, source, 3 if k == "auto" else int(k)).decode())

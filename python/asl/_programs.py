@@ -4,7 +4,7 @@ from __future__ import annotations
 
 import ctypes
 import dataclasses
-from typing import Any, Callable, Iterable, List, Mapping, Optional, Sequence, Tuple, TypeVar, Union
+from typing import Any, Callable, Dict, Iterable, List, Mapping, Optional, Sequence, Tuple, TypeVar, Union
 
 from . import _requests
 from ._commands import Compiled, Lock, Text, answer, program_bytes
@@ -182,6 +182,7 @@ class Program(Kept):
     def _opened(self, status: int) -> Program:
         self._accept(status)
         self._globals = self.counts.globals
+        self._named: Dict[int, int] = {}
         return self
 
     def _read(self, name: str, entry: Entry, *numbers: int) -> Entry:
@@ -277,18 +278,30 @@ class Program(Kept):
     def request(self, list: int, registers: Iterable[Value], objects: Sequence[Object], cells: Cells = {}) -> Tuple[Ask, ...]:
         """What the list asks for: each node once, with its parents, in rising order.
 
-        `registers` are those of the frame by their numbers; `objects` the globals by their numbers, and behind them those that registers and
-        cells have the addresses of. `cells` tells what a cell holds, by the place of its object and its offset: a mapping, or a function,
-        which may append to `objects` what it meets. It is asked once for each cell that the evaluation must read, and for no other. Where a
-        mapping does not have the cell, NeedsCell is raised; what a function raises ends the evaluation.
+        `registers` are those of the frame by their numbers, at least as many as the locks of the list name: nothing could be asked for one that
+        is not there. `objects` are the globals by their numbers, and behind them those that registers and cells have the addresses of. `cells`
+        tells what a cell holds, by the place of its object and its offset: a mapping, or a function, which may append to `objects` what it
+        meets. It is asked once for each cell that the evaluation must read, and for no other. Where a mapping does not have the cell,
+        NeedsCell is raised; what a function raises ends the evaluation.
         """
         entry, view = self._read("list", _List(), list), View(registers, objects)
         if len(objects) < self._globals:
             raise ValueError(f"the objects begin with those of the {self._globals} globals")
+        named = self._registers_named(list, entry.locks)
+        if view.registers_count < named:
+            raise ValueError(f"a lock of the list names register {named - 1}, and only {view.registers_count} are given")
         asks, request = _requests.room_for(entry.locks), _requests.Request()
         while self._needs_cell(list, view, asks, request):
             view.tell((request.object, request.offset), _told(cells, request.object, request.offset))
         return _requests.asks_of(asks, request.count)
+
+    def _registers_named(self, list: int, locks: int) -> int:
+        """One more than the greatest number of a register that a lock of the list names; 0 where none does. It is looked for once."""
+        if list not in self._named:
+            entries = [self._read("lock", _Lock(), list, at) for at in range(locks)]
+            bases = [entry.base for entry in entries if entry.kind == _requests.LEAF and not entry.from_global]
+            self._named[list] = max(bases, default=-1) + 1
+        return self._named[list]
 
     def _needs_cell(self, list: int, view: View, asks: Any, request: _requests.Request) -> bool:
         """Whether the request tells a cell that is needed, and not what the list asks for."""

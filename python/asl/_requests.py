@@ -106,6 +106,7 @@ class View:
 
     def __init__(self, registers: Iterable[Value], objects: Sequence[Object]):
         self._registers = _array(_Value, [_value(value) for value in registers])
+        self.registers_count = len(self._registers)
         self._objects, self._shown = objects, _array(_Object, [])
         self._cells: List[_Cell] = []
 

@@ -161,6 +161,10 @@ class Lists(unittest.TestCase):
         self.assertEqual(asl.lists(COUNTER, "auto"), asl.lists(COUNTER, 8))
         with self.assertRaises(asl.SourceError):
             asl.lists("fn main(t) { x = *t; return t; }", "auto")
+        for k in ("max", "", 9, -1, 1.5, None, True):
+            with self.assertRaises(ValueError) as caught:
+                asl.lists(COUNTER, k)
+            self.assertEqual(str(caught.exception), f"k is a number from 0 to 8 or 'auto', not {k!r}")
 
     def test_entries(self):
         source = "fn put(p, v) { atomic { *p = v; } return v; }\nfn get(p) { atomic { x = *p; } return x; }\n"
@@ -175,8 +179,18 @@ class Lists(unittest.TestCase):
             asl.lists(COUNTER, entries=["main"])
         self.assertEqual(caught.exception.reason, "Twice(main)")
         for entry in ("", "1a", "a b", "f(); } fn g("):
-            with self.assertRaises(ValueError):
-                asl.lists(source, entries=[entry])
+            for entries in (entry, [entry]):
+                with self.assertRaises(ValueError):
+                    asl.lists(source, entries=entries)
+
+    def test_one_entry(self):
+        """A string is one name; what is no string is none."""
+        source = "fn put(p, v) { atomic { *p = v; } return v; }\n"
+        self.assertEqual(asl.lists(source, entries="put"), asl.lists(source, entries=["put"]))
+        for entries, wrong in ((b"put", 112), ([b"put"], b"put"), ([5], 5), ([None], None), ([["put"]], ["put"])):
+            with self.assertRaises(TypeError) as caught:
+                asl.lists(source, entries=entries)
+            self.assertEqual(str(caught.exception), f"an entry is the name of a function, not {wrong!r}")
 
     def test_unreached(self):
         told = asl.lists("fn main(t) { return t; } fn f(a) { return a; }")

@@ -131,6 +131,22 @@ class Requests(unittest.TestCase):
         with self.assertRaises(asl.NeedsCell) as caught:
             self.program.request(1, FROM_ANN_TO_BOB, objects)
         self.assertEqual(caught.exception.cell, (0, 0))
+        self.assertEqual(str(caught.exception), "NeedsCell: cell 0 of the object at place 0 was not told")
+
+    def test_registers_that_are_not_shown(self):
+        """Nothing would be asked for them: so they are refused where a lock names them, and nowhere else."""
+        objects = self.program.global_objects()
+        for few in ((), FROM_ANN_TO_BOB[:1], iter(FROM_ANN_TO_BOB[:1])):
+            with self.assertRaisesRegex(ValueError, "names register 1, and only [01] are given"):
+                self.program.request(1, few, objects)
+        bank = Bank(self.program)
+        self.assertEqual(self.program.request(1, FROM_ANN_TO_BOB[:2], bank.objects, bank.tell), TRANSFER)
+        with self.assertRaisesRegex(ValueError, "names register 0, and only 0 are given"):
+            self.program.request(0, (), objects)
+        head = "version 2\nclasses 1\nglobal 0\nentry 0\nfn 1 2\nacq 0\nrel\nret r0\nlist\n"
+        for locks in ("root write", "class 0 read", "expr g0 write"):
+            with asl.Program.open(f"{head}{locks}\n") as program:
+                self.assertTrue(program.request(0, (), program.global_objects()))
 
     def test_what_is_no_address(self):
         objects = self.program.global_objects()
@@ -139,7 +155,6 @@ class Requests(unittest.TestCase):
             asks = self.program.request(1, FROM_ANN_TO_BOB, objects, lambda place, offset: none)
             self.assertEqual(tuple(ask for ask in asks if ask.kind == "leaf"), only_globals)
             self.assertEqual(self.program.request(1, (none, none, none), objects), ())
-        self.assertEqual(self.program.request(1, (), objects), ())
         self.assertEqual(self.program.request(1, (asl.Address(9), asl.Address(65535, 255)), objects), ())
 
     def test_offsets_and_paths(self):
