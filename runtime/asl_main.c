@@ -4,6 +4,7 @@
 #include <stdio.h>
 #include <stdlib.h>
 #include <string.h>
+#include <sys/resource.h>
 #include <unistd.h>
 
 enum { ALL_DONE = 0, REFUSED = 1, WRONG_USAGE = 2, A_FAULT = 3, MOST_THREADS = 10000, STACK = 16 << 20 };
@@ -116,12 +117,32 @@ static int refused(uint32_t status) {
   return REFUSED;
 }
 
-/* Starts and joins a thread of the system for each; 0, or what pthread_create returns of the first that it refuses. */
-static int run_all(aslr_thread **threads, pthread_t *ids, uint32_t count) {
+/* For the stacks of all threads together: 64 GB, or a quarter of the addresses that the process may have. */
+static uint64_t most_for_stacks(void) {
+  uint64_t most = UINT64_C(64) << 30, addresses = SIZE_MAX;
+#ifdef RLIMIT_AS
+  struct rlimit limit;
+  if (getrlimit(RLIMIT_AS, &limit) == 0 && (uint64_t)limit.rlim_cur < addresses) addresses = limit.rlim_cur;
+#endif
+  return addresses / 4 < most ? addresses / 4 : most;
+}
+
+/* What 256 frames may need, as far as there is room for all threads. Many compilers give each entry of a section a place of its own in the frame, for
+ * up to 65 values of 8 bytes, of which sanitizers make up to three times as much. Each section has its list, so no function has more of them; what
+ * else frames take is in STACK. A stack is mapped, not filled: what is never used of it takes no memory. */
+static size_t stack_for(const aslr_runtime *runtime, uint32_t threads) {
+  enum { FOR_A_SECTION = 256 * 2048 };
+  uint64_t most = most_for_stacks() / threads, sections = most > STACK ? (most - STACK) / FOR_A_SECTION : 0;
+  if (sections > runtime->list_count) sections = runtime->list_count;
+  return STACK + (size_t)sections * FOR_A_SECTION;
+}
+
+/* Starts and joins a thread of the system for each, with such a stack; 0, or what is returned where a stack or a start is refused: then none runs. */
+static int run_all(aslr_thread **threads, pthread_t *ids, uint32_t count, size_t stack) {
   pthread_attr_t attributes;
   int refusal = pthread_attr_init(&attributes);
   if (refusal) return refusal;
-  pthread_attr_setstacksize(&attributes, STACK);
+  refusal = pthread_attr_setstacksize(&attributes, stack);
   start.state = CLOSED;
   uint32_t started = 0;
   while (started < count && !refusal) {
@@ -159,7 +180,10 @@ static int run_threads(aslr_runtime *runtime, aslr_thread **threads, pthread_t *
     threads[*opened]->number = *opened;
     ++*opened;
   }
-  if (run_all(threads, ids, count)) {
+  size_t stack = stack_for(runtime, count);
+  int refusal = run_all(threads, ids, count, stack);
+  if (refusal && stack > STACK) refusal = run_all(threads, ids, count, STACK);
+  if (refusal) {
     fprintf(stderr, "asl: Spawn\n");
     return REFUSED;
   }
