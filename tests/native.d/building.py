@@ -52,11 +52,11 @@ def compiles(flags):
             os.unlink(out)
 
 
-def build(folder, name, c_text, made, flags):
+def build(folder, name, c_text, made, flags, compiler=CC):
     """The program of a text that `asl c` printed."""
     source, out = folder / f"{name}.c", folder / name
     source.write_bytes(c_text)
-    done = subprocess.run([CC, *WARNINGS, *flags, str(source), *made, str(LIBRARY), "-o", str(out)], capture_output=True, text=True)
+    done = subprocess.run([compiler, *WARNINGS, *flags, str(source), *made, str(LIBRARY), "-o", str(out)], capture_output=True, text=True)
     if done.returncode:
         sys.exit(f"{sys.argv[0]}: {source.read_text()}\ndoes not compile: {done.stderr}")
     return out

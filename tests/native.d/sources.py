@@ -61,6 +61,14 @@ def any_program(seed):
     return "".join(f"global {name};\n" for name in it.names) + HELPERS + f"fn main(t) {{\n  {head}\n  {body}\n  return {last};\n}}\n"
 
 
+def deep(sections, variables):
+    """A function that calls itself for ever, with so many sections and variables: some compilers give its frame a place for all of these in
+    each section."""
+    made = "".join(f"v{i} = {i}; " for i in range(variables))
+    parts = "".join(f"atomic {{ *a = v{i % variables}; }} " for i in range(sections))
+    return f"global g; fn f(n) {{ a = &g; {made}{parts}r = f(n); return r; }} fn main(t) {{ r = f(t); return r; }}\n"
+
+
 def swaps(seed):
     """Sections that change the cells which the expressions of other sections read."""
     draw = random.Random(seed)
