@@ -127,14 +127,22 @@ static uint64_t most_for_stacks(void) {
   return addresses / 4 < most ? addresses / 4 : most;
 }
 
-/* What 256 frames may need, as far as there is room for all threads. Many compilers give each entry of a section a place of its own in the frame, for
- * up to 65 values of 8 bytes, of which sanitizers make up to three times as much. Each section has its list, so no function has more of them; what
- * else frames take is in STACK. A stack is mapped, not filled: what is never used of it takes no memory. */
+/* What a frame may take for the entries of sections. Many compilers give each a place of its own, for up to 65 values of 8 bytes, and sanitizers make
+ * up to three times as much of it. Each section has its list, so no function has more of them. */
+static size_t in_a_frame(uint64_t sections) { return (size_t)sections * 2048; }
+
+/* Room for 256 frames, as far as there is room for all threads; what else they take is in STACK. A stack is mapped, not filled: what is never used of
+ * it takes no memory. */
 static size_t stack_for(const aslr_runtime *runtime, uint32_t threads) {
-  enum { FOR_A_SECTION = 256 * 2048 };
-  uint64_t most = most_for_stacks() / threads, sections = most > STACK ? (most - STACK) / FOR_A_SECTION : 0;
+  uint64_t most = most_for_stacks() / threads, sections = most > STACK ? (most - STACK) / (256 * in_a_frame(1)) : 0;
   if (sections > runtime->list_count) sections = runtime->list_count;
-  return STACK + (size_t)sections * FOR_A_SECTION;
+  return STACK + 256 * in_a_frame(sections);
+}
+
+/* Behind the stack is a guard as large as a frame: who finds no room ends by a signal, and does not come into another's stack. */
+static int set_stack(pthread_attr_t *attributes, size_t stack, const aslr_runtime *runtime) {
+  int refusal = pthread_attr_setstacksize(attributes, stack);
+  return refusal ? refusal : pthread_attr_setguardsize(attributes, (1 << 16) + in_a_frame(runtime->list_count));
 }
 
 /* Starts and joins a thread of the system for each, with such a stack; 0, or what is returned where a stack or a start is refused: then none runs. */
@@ -142,7 +150,7 @@ static int run_all(aslr_thread **threads, pthread_t *ids, uint32_t count, size_t
   pthread_attr_t attributes;
   int refusal = pthread_attr_init(&attributes);
   if (refusal) return refusal;
-  refusal = pthread_attr_setstacksize(&attributes, stack);
+  refusal = set_stack(&attributes, stack, threads[0]->runtime);
   start.state = CLOSED;
   uint32_t started = 0;
   while (started < count && !refusal) {

@@ -22,6 +22,7 @@ static long refused = NOTHING; /* what gets no more stack than `allowed`: a thre
 static size_t allowed, refused_last;
 static int refusals;
 static size_t stacks[MOST_STARTED]; /* of the threads that were started last, by their numbers */
+static size_t guards[MOST_STARTED]; /* behind them */
 
 static bool refuses(long what, size_t stack) {
   if (what != refused || stack <= allowed) return false;
@@ -43,18 +44,22 @@ int __wrap_pthread_create(pthread_t *id, const pthread_attr_t *attributes, void 
   size_t stack = 0;
   pthread_attr_getstacksize(attributes, &stack);
   if (refuses(number, stack)) return EAGAIN;
-  if (number < MOST_STARTED) stacks[number] = stack;
+  if (number < MOST_STARTED) {
+    stacks[number] = stack;
+    pthread_attr_getguardsize(attributes, &guards[number]);
+  }
   return __real_pthread_create(id, attributes, run, given);
 }
 
-/* Whether all that were started have so much stack together, up to a MB less for each, or each has 16 MB where that is more. */
+/* Whether all that were started have so much stack together, up to a MB less for each, or each has 16 MB where that is more; and behind it a guard as
+ * large as the frame of a function with all sections and 64 registers. */
 static bool all_have(size_t together) {
   size_t count = 0;
   while (count < MOST_STARTED && stacks[count]) count++;
   if (count == 0) return false;
   size_t each = together / count > LEAST ? together / count : LEAST;
   for (size_t i = 0; i < count; i++)
-    if (stacks[i] > each || stacks[i] + MB <= each) return false;
+    if (stacks[i] > each || stacks[i] + MB <= each || guards[i] < LISTS * 65 * 8) return false;
   return true;
 }
 
