@@ -26,7 +26,8 @@ typedef struct forest_thread {
   uint64_t turn;    /* while it waits: who came before has a lesser one; else 0 */
   struct forest_thread *behind; /* while it waits: one who is in its way; NULL: there was no number for it */
   struct forest_thread *next_behind, *last_behind; /* among those who stand behind the same one */
-  struct forest_thread *first_follower, *last_follower; /* those who stand behind this one */
+  struct forest_thread *first_follower, *last_follower; /* those who stand behind this one, by their turns */
+  struct forest_thread *placed; /* of these the one that came there last before others; NULL: none */
   mine *self;
   const list *of;   /* while it waits */
   const aslr_value *registers;
@@ -206,18 +207,36 @@ static forest_thread *holds_before(const forest_engine *engine, const forest_thr
   return NULL;
 }
 
-/* No more behind the one it stood behind, but behind another, among those there by their turns; `other` may be NULL. */
-static void stand_behind(forest_thread *my, forest_thread *other) {
-  if (my->behind) {
-    *(my->last_behind ? &my->last_behind->next_behind : &my->behind->first_follower) = my->next_behind;
-    *(my->next_behind ? &my->next_behind->last_behind : &my->behind->last_follower) = my->last_behind;
-  }
-  my->behind = other;
+/* No more behind the one it stood behind. */
+static void step_out(forest_thread *my) {
+  forest_thread *other = my->behind;
   if (!other) return;
+  if (other->placed == my) other->placed = my->last_behind;
+  *(my->last_behind ? &my->last_behind->next_behind : &other->first_follower) = my->next_behind;
+  *(my->next_behind ? &my->next_behind->last_behind : &other->last_follower) = my->last_behind;
+  my->behind = NULL;
+}
+
+/* The last of those who stand behind this one whose turn is before that one. Those who come there one after the other, as when the one before whom they
+ * stood gives back, come by their turns: so it is looked for from where the last of them was placed. */
+static forest_thread *follower_before(const forest_thread *other, uint64_t turn) {
   forest_thread *last = other->last_follower;
-  while (last && last->turn > my->turn) last = last->last_behind;
+  if (!last || last->turn < turn) return last;
+  if (other->placed) last = other->placed;
+  while (last && last->turn > turn) last = last->last_behind;
+  for (forest_thread *next = last ? last->next_behind : other->first_follower; next && next->turn < turn; next = next->next_behind) last = next;
+  return last;
+}
+
+/* Behind another than before, among those there by their turns; `other` may be NULL. */
+static void stand_behind(forest_thread *my, forest_thread *other) {
+  step_out(my);
+  if (!other) return;
+  forest_thread *last = follower_before(other, my->turn);
+  my->behind = other;
   my->last_behind = last;
   my->next_behind = last ? last->next_behind : other->first_follower;
+  if (my->next_behind) other->placed = my;
   *(last ? &last->next_behind : &other->first_follower) = my;
   *(my->next_behind ? &my->next_behind->last_behind : &other->last_follower) = my;
 }
