@@ -39,7 +39,7 @@ const char *aslr_status_name(uint32_t status) {
 
 /* ---- programs */
 
-/* whether the program has what the lock names */
+/* Whether the program has the class, the global or the register that a lock of its lists names; else it is refused as ASLR_BAD_PROGRAM. */
 static bool is_there(const aslr_program *program, const aslr_lock *lock) {
   if ((lock->mode != ASL_S && lock->mode != ASL_X) || lock->kind > ASL_LEAF) return false;
   if (lock->kind == ASL_CLASS) return lock->at < program->classes;

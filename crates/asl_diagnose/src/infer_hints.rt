@@ -1,4 +1,4 @@
-//! What helps where no lists are inferred for a program.
+//! What helps where no lists are inferred for a program. Tried by `tests/diagnosed`.
 
 use asl_diagnose_text::{
     call_outside, function_around, function_name, push_hint, push_place, push_quoted, registers,

@@ -1,4 +1,4 @@
-//! What is said of an assembly text that is refused.
+//! What is said of an assembly text that is refused. Tried by `tests/diagnosed`.
 
 use crate::bytes::push_quoted;
 use crate::forms::{WORDS, form, may_stand, turn_at, turn_text};

@@ -1,4 +1,5 @@
-//! Which lock after an instruction may become a given one before it.
+//! Which lock after an instruction may become a given one before it. Each answers `true` only where that is so; one `false` too many loses a
+//! chain, which `tests/explained` finds.
 ghost use Rattle.std.specs.Prelude.{◌≡◌, ◌≤◌, ◌+◌, IfOk, IsTrue};
 ghost use Rattle.std.specs.List.{flat_map};
 ghost use Rattle.asl_lock_expr.specs.Links.{IsOne, accesses, link, settle, renamed, dereferenced};

@@ -19,11 +19,13 @@ static CALL: &[u8] =
 static WALK: &[u8] =
     b"global h; fn main(t) { n = new 2; p = &h; atomic { y = *p; g = &n[1]; *g = y; *p = n; } atomic { x = *p; while x { f = &x[1]; x = *f; } } return t; }";
 
+/// The lock on the cell that a base has the address of.
 fn on(base: Base, effect: Effect) -> Lock {
     let path = Path::new();
     Lock::Expr(Expr { base, path }, effect)
 }
 
+/// The lock on the cell whose address that one holds.
 fn behind(register: u8, effect: Effect) -> Lock {
     let mut path = Path::new();
     path.push(Op::Deref);

@@ -60,7 +60,8 @@ pub fn acquire(
     }
 }
 
-/// Leaves a section. The outermost gives all locks back.
+/// Leaves a section. The outermost gives all locks back. Nobody is woken: the machine has no queue, and who was blocked tries again when
+/// it is stepped.
 pub fn leave(forest: &mut Forest, t: u32, activity: &mut Activity) -> Fate
     requires thread { t < forest.old.threads }
     requires room { activity.old.top.pc + 1 < 2 ^ 16 }

@@ -93,7 +93,7 @@ impl<'t> Counts<'t> {
         }
     }
 
-    /// Whether the token goes past a limit.
+    /// Whether the token goes past a limit. Of 64 braces that may be open one is the body of the function.
     #[inline(always)]
     pub fn is_over(&self, token: Token<'_>) -> bool
         ensures { result ≡ is_over (tally_in self.now) (token_of token.entry) }

@@ -8,7 +8,7 @@ use std::collections::HashMap;
 /// So many points are kept from search to search.
 const MOST_KEPT: usize = 262144;
 
-/// What a search has passed on its way: changes of the lock first, then instructions.
+/// What a search has passed on its way, by which a chain is cheaper than another: fewer changes of the lock, then fewer instructions.
 #[derive(Clone, Copy, PartialEq, Eq, PartialOrd, Ord)]
 pub(crate) struct Cost {
     pub(crate) changes: u32,
