@@ -1,6 +1,6 @@
 // Which button, key or other event does what.
-// Tried by web/test/using.mjs and web/test/opening.mjs, and by hand by web/test/random.mjs. What is chosen of `file` and `example` is emptied, so
-// that the same one, chosen again, is a change.
+// Tried by web/test/using.mjs and web/test/opening.mjs, and by hand by web/test/random.mjs.
+// What is chosen of `file` and `example` is emptied, so that the same one, chosen again, is a change.
 
 import { chooseK, chooseThreads, loadExample, loadFileList, openNew, openShare, play, random, rename, replies, robin, sameThread,
   toHolder, toWriter, until, whyHere } from './actions.js';
