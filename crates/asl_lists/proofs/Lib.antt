@@ -1,3 +1,4 @@
+pub mod Entries
 pub mod Lengths
 pub mod Made
 pub mod Named

@@ -41,7 +41,7 @@ IsToldFor source k added text = (n : ℕ) × IsLength source k n × IsDocument s
 -- the document of the source with what calls its entries
 abbrev pub HasEntries : List ℕ → Option ℕ → List (List ℕ) → List ℕ → Type 0
 HasEntries source k names text =
-    (entries : List Entry) × AreEntries names entries × IsToldFor (source ++ driver entries) k (driver entries) text
+    (entries : List Entry) × AreEntries source names entries × IsToldFor (source ++ driver entries) k (driver entries) text
 
 -- the document of the source, where no entries are named
 abbrev pub IsListed : List ℕ → Option ℕ → List (List ℕ) → List ℕ → Type 0
@@ -56,7 +56,7 @@ IsRefusedWhole source k OutOfMemory = (n : ℕ) × IsLength source k n × IsAcce
 -- what a refusal says of the source with what calls its entries; of lack of memory nothing is said
 abbrev pub HasRefusedEntries : List ℕ → Option ℕ → List (List ℕ) → ListsFault → Type 0
 HasRefusedEntries source k names (Refused cause) =
-    (entries : List Entry) × AreEntries names entries × IsRefusedAt (source ++ driver entries) k cause
+    (entries : List Entry) × AreEntries source names entries × IsRefusedAt (source ++ driver entries) k cause
 HasRefusedEntries source k names OutOfMemory = Unit {0}
 
 -- what a refusal says of the source, with what calls its entries where some are named

@@ -1,7 +1,9 @@
 //! The text that calls the entries of a source which has no `main` of its own.
-ghost use Rattle.std.specs.Prelude.{◌≡◌, ◌++◌, map, IfOk, OnOk, string_bytes};
+ghost use Rattle.std.specs.Prelude.{◌≡◌, ◌++◌, ℕ, Some, false, true, map, slice_get, IfOk, OnOk, string_bytes};
+ghost use Rattle.asl_syntax.specs.View.{item_of};
+ghost use Rattle.asl_syntax.specs.Rules.{parameter_counts, differs};
 ghost use Rattle.asl_lists.specs.Numbered.{numbered};
-ghost use Rattle.asl_lists.specs.Driver.{objects, arguments, caller, call, driver};
+ghost use Rattle.asl_lists.specs.Driver.{objects, arguments, caller, call, driver, bare_main, AreEntries};
 
 use asl_syntax::tree::Item;
 use asl_syntax::{SyntaxFault, parse};
@@ -96,16 +98,39 @@ pub fn driver(alloc: Global, entries: &[Entry<'_>]) -> Result<String, AllocError
     Ok(text)
 }
 
-/// How many parameters the function of a name has, if it is one of the items; else none.
-fn parameters_of(items: &[Item<'_>], name: &str) -> usize {
+/// How many parameters the function of a name has, if it is one of the items.
+fn parameters_of(items: &[Item<'_>], name: &str) -> Option<usize>
+    ensures { result ≡ parameter_counts (map item_of items.now) name.now }
+{
     for item in items {
         if let Item::Function(function) = item {
             if function.name.as_slice() == name.as_bytes() {
-                return function.parameters.len();
+                return Some(function.parameters.len());
             }
         }
     }
-    0
+    None
+}
+
+/// The entry of a name, whose function is perhaps one of the items.
+fn entry_of<'a>(items: &[Item<'_>], name: &'a str) -> Entry<'a>
+    ensures named { result.name.now ≡ name.now }
+    ensures fits { differs (parameter_counts (map item_of items.now) name.now) result.parameters ≡ false }
+{
+    let parameters = match parameters_of(items, name) {
+        Some(count) => count,
+        None => 0,
+    };
+    Entry { name, parameters }
+}
+
+/// The source with a `main` that calls nothing.
+fn with_main(alloc: Global, source: &[u8]) -> Result<Vec<u8>, AllocError>
+    ensures { IfOk result (λ whole. whole.items ≡ source.now ++ bare_main) }
+{
+    let mut whole = source.to_vec(alloc)?;
+    whole.extend_from_slice("\nfn main(t) {\n  return t;\n}\n".as_bytes())?;
+    Ok(whole)
 }
 
 /// The entries of a source, by the parameters of the functions of these names.
@@ -114,15 +139,21 @@ pub fn entries_of<'a>(
     source: &[u8],
     names: &'a [String],
 ) -> Result<Vec<Entry<'a>>, AllocError>
-    ensures { IfOk result (λ entries. map (λ (e : Entry). e.name.now) entries.items ≡ map string_bytes names.now) }
+    ensures { IfOk result (λ entries. AreEntries source.now (map string_bytes names.now) entries.items) }
 {
-    let mut with_main = source.to_vec(alloc)?;
-    with_main.extend_from_slice(b"\nfn main(t) {\n  return t;\n}\n")?;
-    match parse(alloc, &with_main) {
+    let whole = with_main(alloc, source)?;
+    match parse(alloc, &whole) {
         Ok(ast) => named_entries(alloc, ast.items(), names),
-        Err(SyntaxFault::OutOfMemory) => Err(AllocError),
+        Err(fault) if is_lack(&fault) => Err(AllocError),
         Err(_) => named_entries(alloc, &[], names),
     }
+}
+
+/// Whether the refusal says that memory ran out.
+fn is_lack(fault: &SyntaxFault) -> bool
+    ensures { fault.now ≡ SyntaxFault.OutOfMemory → result ≡ true }
+{
+    matches!(fault, SyntaxFault::OutOfMemory)
 }
 
 /// The entries of these names.
@@ -131,13 +162,12 @@ fn named_entries<'a>(
     items: &[Item<'_>],
     names: &'a [String],
 ) -> Result<Vec<Entry<'a>>, AllocError>
-    ensures { IfOk result (λ entries. map (λ (e : Entry). e.name.now) entries.items ≡ map string_bytes names.now) }
+    ensures named { IfOk result (λ entries. map (λ (e : Entry). e.name.now) entries.items ≡ map string_bytes names.now) }
+    ensures fit { IfOk result (λ entries. (n : ℕ) (e : Entry) → slice_get entries.items n ≡ Some e → differs (parameter_counts (map item_of items.now) e.name.now) e.parameters ≡ false) }
 {
     let mut entries = Vec::new(alloc);
     for name in names {
-        let name = name.as_str();
-        let parameters = parameters_of(items, name);
-        entries.push(Entry { name, parameters })?;
+        entries.push(entry_of(items, name.as_str()))?;
     }
     Ok(entries)
 }

@@ -78,7 +78,7 @@ pub record IsPrintedWhole (source : List ℕ) (k : Option ℕ) (checks : Bool) (
 -- so of the source with what calls its entries
 abbrev pub IsPrintedEntries : List ℕ → Option ℕ → Bool → List (List ℕ) → List Replacement → List ℕ → Type 0
 IsPrintedEntries source k checks names externs output =
-    (es : List Entry) × AreEntries names es × IsPrintedWhole (source ++ driver es) k checks names externs output
+    (es : List Entry) × AreEntries source names es × IsPrintedWhole (source ++ driver es) k checks names externs output
 
 -- the text of the source, where no entries are named
 abbrev pub IsPrinted : List ℕ → Option ℕ → Bool → List (List ℕ) → List Replacement → List ℕ → Type 0
@@ -115,7 +115,7 @@ IsRefusedWhole source k externs f = IsRefusedAt source k f ⊎ IsUnknownOf sourc
 -- so of the source with what calls its entries; of lack of memory for that nothing is said
 abbrev pub IsRefusedEntries : List ℕ → Option ℕ → List (List ℕ) → List Replacement → CommandFault → Type 0
 IsRefusedEntries source k names externs f =
-    (f ≡ fault.OutOfMemory) ⊎ ((es : List Entry) × AreEntries names es × IsRefusedWhole (source ++ driver es) k externs f)
+    (f ≡ fault.OutOfMemory) ⊎ ((es : List Entry) × AreEntries source names es × IsRefusedWhole (source ++ driver es) k externs f)
 
 -- what a refusal says of the source, with what calls its entries where some are named
 abbrev pub IsRefusedPrinting : List ℕ → Option ℕ → List (List ℕ) → List Replacement → CommandFault → Type 0
