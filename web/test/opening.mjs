@@ -40,6 +40,27 @@ await part('a run and its source: at once in either order, one after the other i
   check(await run("workbench.bench.title") !== 'student.asm' && await run('workbench.bench.past.canGoForward'), 'undo goes back to what was there');
 });
 
+await part('files that are chosen are opened, and the same ones when they are chosen again', async () => {
+  const choose = async (...files) => {
+    const given = files.map(([name, data]) => `given.items.add(new File([new Uint8Array(${bytes(data)})], ${JSON.stringify(name)}));`);
+    await run(`(() => { const given = new DataTransfer(), box = document.getElementById('file'); ${given.join('')}
+      box.files = given.files; box.dispatchEvent(new Event('change', { bubbles: true })); })()`);
+    await settled(); await settled();
+  };
+  const isEmpty = () => run("document.getElementById('file').files.length === 0");
+  const student = runOf(MINE, 3, 3, 0, 0, 1, 1, 2), want = 'asl,mine.asl,3,3,00112';
+  await open('#example=bank.asl&k=1&threads=2');
+  await choose(['student.run', student], ['mine.asl', MINE]);
+  check(await seen() === want && await told() === '', 'a run and its source: ' + await seen() + await told());
+  check(await isEmpty(), 'the same ones are a change again');
+  await key('c'); await key('0');
+  check(await seen() === 'asl,mine.asl,3,3,0', 'another run: ' + await seen());
+  await choose(['student.run', student]);
+  check(await seen() === want && await isEmpty(), 'the same one once more: ' + await seen());
+  await choose(['empty.asl', '']);
+  check(/empty\.asl: it is empty/.test(await told()) && await seen() === want && await isEmpty(), 'one that is refused: ' + await told());
+});
+
 await part('a run of a program of a lesson that was opened finds it, also of its second one', async () => {
   const second = 'global h;\nfn main(t) {\n  p = &h;\n  atomic { *p = t; }\n  return t;\n}\n';
   const lesson = `lesson x\nexample counter.asl\nstep a\nuntil all threads have ended\nstep b\nprogram two.asl\n${second}end program\nuntil all threads have ended\n`;

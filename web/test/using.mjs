@@ -24,6 +24,31 @@ await part('the mouse: lane heads, events, buttons, a dropped file', async () =>
   check(await run('workbench.bench.title') === 'mine.asl', 'a dropped file');
 });
 
+await part('the slide goes to each event: pressed at its ends and between, and moved on', async () => {
+  await open('#example=counter.asl&k=3&threads=2');
+  await key('r');
+  const [length] = await at(), half = length >> 1;
+  const is = async (position, words) => {
+    check(String(await at()) === `${position},${length}`, `${words}: ${await at()}`);
+    check(await textOf('#position') === `after ${position} of ${length} events` && await run("document.getElementById('slide').value") === String(position), `${words}: it says ${await textOf('#position')}`);
+  };
+  const press = async part => {
+    const [left, right, y] = await run("(() => { const b = document.getElementById('slide').getBoundingClientRect(); return [b.left, b.right, b.top + b.height / 2]; })()");
+    await browser.click(left + 2 + (right - left - 4) * part, y);
+    await calm();
+  };
+  await press(0); await is(0, 'its left end');
+  await press(1); await is(length, 'its right end');
+  await press(0.5); check(Math.abs((await at())[0] - half) <= 1, `its middle: ${await at()}`);
+  check(await run("document.activeElement.id") === 'slide', 'it has the keys');
+  const [middle] = await at();
+  await key('ArrowRight'); await is(middle + 1, 'an arrow on it is one event');
+  for (let position = 0; position <= length; position++) {
+    await run(`(() => { const e = document.getElementById('slide'); e.value = ${position}; e.dispatchEvent(new Event('input', { bubbles: true })); })()`);
+    await calm(); await is(position, `moved to ${position}`);
+  }
+});
+
 await part('typing is painted at once and compiled soon', async () => {
   await open('#example=counter.asl&k=3&threads=2&steps=0011&at=4');
   await key('e');
