@@ -200,9 +200,9 @@ static forest_thread *waits_before(const forest_engine *engine, const forest_thr
   return NULL;
 }
 
-/* one who holds what clashes */
+/* One who holds what clashes. Those to whom it was granted last stand last, and are looked at first: they have taken what others waited for. */
 static forest_thread *holds_before(const forest_engine *engine, const forest_thread *my) {
-  for (uint32_t h = 0; h < engine->held.count; h++)
+  for (uint32_t h = engine->held.count; h-- > 0;)
     if (clash(&holder(engine, h)->asked, &my->asked)) return holder(engine, h);
   return NULL;
 }
@@ -276,11 +276,10 @@ static void give_back(forest_engine *engine, forest_thread *my) {
   my->holds = false;
 }
 
-/* Who waits is looked at again, where nobody waits before who asks for what clashes with what he asked. Returns whether he goes on. `other` becomes
- * true where he is no more in the way of those behind him for what he asked before. */
+/* Who waits is looked at again, where nobody holds, or waits before, who asks for what clashes with what he asked: where he asks for the same, that is
+ * not compared again. Returns whether he goes on. `other` becomes true where he is no more in the way of those behind him for what he asked before. */
 static bool look_again(forest_engine *engine, forest_thread *my, bool *other) {
   request waited = my->asked;
-  forest_thread *before = NULL;
 #ifdef ASLR_TEST_ONE_EVALUATION /* for a test, which must then fail */
   if (my->held_back) {
 #else
@@ -292,10 +291,11 @@ static bool look_again(forest_engine *engine, forest_thread *my, bool *other) {
     my->self->thread.counts.again++;
     count_out(engine, &waited);
     count_in(engine, &my->asked);
-    before = waits_before(engine, my);
   }
+  bool asks_the_same = same_request(&waited, &my->asked);
+  forest_thread *before = asks_the_same ? NULL : waits_before(engine, my);
   uint32_t status = grant(engine, my, before);
-  if (status == ASLR_NO_MEMORY || !same_request(&waited, &my->asked)) *other = true;
+  if (status == ASLR_NO_MEMORY || !asks_the_same) *other = true;
   if (status == ASL_IN_THE_WAY) {
     stand_behind(my, before ? before : holds_before(engine, my));
     return false;
@@ -305,19 +305,17 @@ static bool look_again(forest_engine *engine, forest_thread *my, bool *other) {
   return true;
 }
 
-/* Who is in the way of one who waits, for what he asked: the one he stands behind, if that one still is; one of those who have just gone on, a list
- * by `next`; another who holds, of whom there are few; or one who waits before. NULL: he must be looked at. */
-static forest_thread *still_before(const forest_engine *engine, const forest_thread *my, forest_thread *go) {
+/* Who is in the way of one who waits, for what he asked: the one he stands behind, if that one still is; another who holds, of whom there are few, and
+ * who may just have gone on; or one who waits before. NULL: he must be looked at. */
+static forest_thread *still_before(const forest_engine *engine, const forest_thread *my) {
   forest_thread *other = my->behind;
   if (other && (other->holds || (other->turn && other->turn < my->turn)) && clash(&other->asked, &my->asked)) return other;
-  for (; go; go = go->next)
-    if (go->holds && clash(&go->asked, &my->asked)) return go;
   forest_thread *holding = holds_before(engine, my);
   return holding ? holding : waits_before(engine, my);
 }
 
 static void look_at(forest_engine *engine, forest_thread *my, forest_thread **go, bool *other) {
-  forest_thread *before = still_before(engine, my, *go);
+  forest_thread *before = still_before(engine, my);
   if (before) {
     if (before != my->behind) stand_behind(my, before);
   } else if (look_again(engine, my, other)) {

@@ -13,8 +13,8 @@
  *
  * A word counts the threads that hold a mode with the 1, the 2, the 4 and the 8 (docs/LOCKS.md), and those that wait to write what is below, all of it
  * or a part: once one waits, nobody comes in but others who write there, so readers do not keep a writer out. Who gives back wakes those who can come in
- * now, of those who write all one. Leaves share words by a hash, which costs waiting. A node at which no two requests can clash has no word: the root
- * where no list names it, a class that no list names. */
+ * now, of those who write all one; so does the last one who waited to write a part, as it comes in. Leaves share words by a hash, which costs waiting. A
+ * node at which no two requests can clash has no word: the root where no list names it, a class that no list names. */
 #define _POSIX_C_SOURCE 200809L
 #include "inside.h"
 #include <stdlib.h>
@@ -178,9 +178,11 @@ static void wait_for(mine *self, uint64_t at, uint64_t clash) {
   sleep_for(engine, &my->asleep);
 }
 
-/* Who wants to write below and is kept out says so once in the word, and no longer waits for others who have said so. */
+/* Who wants to write below and is kept out says so once in the word, and no longer waits for others who have said so. When the last of them is in,
+ * those can come in who waited for that alone; where he writes all, nobody can. */
 static void take(mine *self, uint64_t at, uint8_t mode) {
-  _Atomic uint64_t *word = &of_runtime(self->thread.runtime)->nodes[at].word;
+  words_engine *engine = of_runtime(self->thread.runtime);
+  _Atomic uint64_t *word = &engine->nodes[at].word;
   const uint64_t held = what_clashes(mode);
   uint64_t clash = held | (mode & 8 ? 0 : ALL_WAIT);
   uint64_t added = what_is_added(mode);
@@ -188,8 +190,9 @@ static void take(mine *self, uint64_t at, uint8_t mode) {
   uint64_t w = atomic_load_explicit(word, memory_order_relaxed);
   for (;;) {
     if (!(w & clash)) {
-      if (atomic_compare_exchange_weak_explicit(word, &w, w + added, memory_order_acquire, memory_order_relaxed)) return;
-      continue;
+      if (!atomic_compare_exchange_weak_explicit(word, &w, w + added, memory_order_acquire, memory_order_relaxed)) continue;
+      if (told && !(mode & 8) && w & SLEEPER && !((w + added) & ALL_WAIT)) wake_sleepers(engine, at);
+      return;
     }
     if (!waited) self->thread.counts.refusals++;
     waited = true;

@@ -1,6 +1,7 @@
 /* Who may pass those who wait. Readers, of whom one is always in, keep no writer out, whatever they read and he writes. Under the engine `forest`,
  * too: a list that is held back at a cell which it reads is not passed by those who come later and lead that cell elsewhere, in whichever order its
- * paths stand; of those who stand behind the same one, who came first comes in first; and who gives back compares few requests for each of them.
+ * paths stand; of those who stand behind the same one, who came first comes in first; and who gives back compares few requests for each of them,
+ * and none twice. And who waits for a writer that is kept out comes in once that one is in, where the two do not clash.
  * Nothing here rests on time: who is sent is in its section, or sleeps before it, when the next step is made, and afterwards it is asked who was in
  * before whom. Link it with counted_engine.c and --wrap=pthread_cond_wait,--wrap=aslr_forest_engine. */
 #define _POSIX_C_SOURCE 200809L
@@ -10,8 +11,8 @@
 #include <stdlib.h>
 #include <time.h>
 
-/* who waits while ENDLESS others go on waits for ever; no more than PASS may go before; FEW comparisons are few for one who waits */
-enum { ENDLESS = 100, PASS = 10, CROWD = 200, READERS = 4, FEW = 20 };
+/* who waits while ENDLESS others go on waits for ever; no more than PASS may go before; FEW comparisons are few for one who waits; MANY hold at once */
+enum { ENDLESS = 100, PASS = 10, CROWD = 200, READERS = 4, FEW = 20, MANY = 100 };
 
 static atomic_int passed;
 
@@ -149,6 +150,28 @@ static void lets_a_writer_in(aslr_engine engine, uint32_t read, uint32_t write) 
   close_runtime();
 }
 
+/* ---- a writer that is kept out */
+
+/* A writer of a cell waits for a reader of the class, and with it a reader of another cell. The first one leaves, the writer comes in and stays, and
+ * so the reader of the other cell comes in too. */
+static void lets_in_beside_the_writer(aslr_engine engine) {
+  open_for(engine);
+  aslr_thread *holds_class = new_thread();
+  visitor writer = {.thread = new_thread(), .list = WRITES, .registers = {aslr_global(runtime, 0)}, .stays = true};
+  visitor reader = {.thread = new_thread(), .list = READS, .registers = {aslr_global(runtime, 1)}};
+  enter(holds_class, READS_CLASS, writer.registers);
+  send(&writer);
+  send(&reader);
+  MUST(!is_in(&writer));
+  leave(holds_class);
+  await(&writer);
+  await(&reader);
+  close_thread(holds_class);
+  close_thread(writer.thread);
+  close_thread(reader.thread);
+  close_runtime();
+}
+
 /* ---- a list that is held back */
 
 /* The list waits for the object that a global leads to, which is held. By turns the other object is held, somebody comes who leads the global there,
@@ -215,27 +238,84 @@ static void looks_first_come_first(void) {
 
 atomic_ullong comparisons; /* of modes: counted_engine.c */
 
-/* Each of a crowd wants to write a cell of its own, and readers of the class are in the way: all stand behind the one who stands first among those
- * who hold. He leaves, and the last of them takes his place (asl_holding.c); so all must stand behind another one, time after time. */
+/* Each of a crowd wants to write a cell of its own, while somebody is in the way. */
+static void send_crowd(visitor *crowd, int count, aslr_thread *maker, bool stays) {
+  for (int i = 0; i < count; i++) {
+    crowd[i] = (visitor){.thread = new_thread(), .list = WRITES, .registers = {new_cell(maker, 0)}, .stays = stays};
+    send(&crowd[i]);
+    MUST(!is_in(&crowd[i]));
+  }
+}
+
+static void await_crowd(visitor *crowd, int count) {
+  for (int i = 0; i < count; i++) await(&crowd[i]);
+}
+
+static void close_crowd(visitor *crowd, int count) {
+  for (int i = 0; i < count; i++) close_thread(crowd[i].thread);
+}
+
+/* how many modes are compared while it leaves */
+static unsigned long long compared_by(aslr_thread *thread) {
+  unsigned long long before = atomic_load(&comparisons);
+  leave(thread);
+  return atomic_load(&comparisons) - before;
+}
+
+/* Readers of the class are in the way of a crowd: all stand behind the one who stands last among those who hold. He leaves; so all must stand behind
+ * another one, time after time. */
 static void compares_few(void) {
   static visitor crowd[CROWD];
   aslr_thread *readers[READERS];
   const aslr_value none = ASLR_NULL;
   open_for(ASLR_FOREST);
   for (int i = 0; i < READERS; i++) enter(readers[i] = new_thread(), READS_CLASS, &none);
-  for (int i = 0; i < CROWD; i++) {
-    crowd[i] = (visitor){.thread = new_thread(), .list = WRITES, .registers = {new_cell(readers[0], 0)}};
-    send(&crowd[i]);
-    MUST(!is_in(&crowd[i]));
-  }
-  for (int left = 0; left < READERS; left++) {
-    unsigned long long before = atomic_load(&comparisons);
-    leave(readers[left ? READERS - left : 0]);
-    if (left < READERS - 1) MUST(atomic_load(&comparisons) - before <= FEW * CROWD);
-  }
-  for (int i = 0; i < CROWD; i++) await(&crowd[i]);
-  for (int i = 0; i < CROWD; i++) close_thread(crowd[i].thread);
+  send_crowd(crowd, CROWD, readers[0], false);
+  for (int left = READERS; left > 1; left--) MUST(compared_by(readers[left - 1]) <= FEW * CROWD);
+  leave(readers[0]);
+  await_crowd(crowd, CROWD);
+  close_crowd(crowd, CROWD);
   for (int i = 0; i < READERS; i++) close_thread(readers[i]);
+  close_runtime();
+}
+
+/* One who writes the class leaves, and all of a crowd go on and stay: each is compared with each who went on before it, at the root and the class. */
+static void compares_each_once(void) {
+  static visitor crowd[MANY];
+  const aslr_value none = ASLR_NULL;
+  open_for(ASLR_FOREST);
+  aslr_thread *writer = new_thread();
+  enter(writer, WRITES_CLASS, &none);
+  send_crowd(crowd, MANY, writer, true);
+  MUST(compared_by(writer) <= 2 * (MANY * (MANY - 1) / 2));
+  await_crowd(crowd, MANY);
+  close_crowd(crowd, MANY);
+  close_thread(writer);
+  close_runtime();
+}
+
+/* One whose list reads a cell waits behind a crowd that is in nobody's way. It goes on, and asks for the same: it is compared with each of them once, at
+ * the root, and with the two who hold. */
+static void compares_the_same_once(void) {
+  static visitor crowd[CROWD];
+  open_for(ASLR_FOREST);
+  aslr_thread *reader = new_thread(), *writer = new_thread();
+  const aslr_value objects[2] = {new_cell(reader, 1), new_cell(reader, 1)};
+  visitor last = {.thread = new_thread(), .list = BEHIND, .registers = {objects[0], objects[1]}, .stays = true};
+  aslr_store(reader, objects[1], new_cell(reader, 1));
+  enter(reader, READS_CLASS, objects);
+  enter(writer, WRITES, objects);
+  send_crowd(crowd, CROWD, reader, false);
+  send(&last);
+  MUST(!is_in(&last));
+  MUST(compared_by(writer) <= CROWD + FEW);
+  await(&last);
+  leave(reader);
+  await_crowd(crowd, CROWD);
+  close_crowd(crowd, CROWD);
+  close_thread(last.thread);
+  close_thread(reader);
+  close_thread(writer);
   close_runtime();
 }
 
@@ -245,9 +325,13 @@ int main(void) {
       lets_a_writer_in(ASLR_FOREST, read, write);
       lets_a_writer_in(ASLR_WORDS, read, write);
     }
+  lets_in_beside_the_writer(ASLR_FOREST);
+  lets_in_beside_the_writer(ASLR_WORDS);
   lets_nobody_move_on(LONGEST_FIRST);
   lets_nobody_move_on(LONGEST_LAST);
   looks_first_come_first();
   compares_few();
+  compares_each_once();
+  compares_the_same_once();
   printf("passing: %d hold\n", passed);
 }
