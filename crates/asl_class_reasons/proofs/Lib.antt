@@ -9,3 +9,4 @@ pub mod Searching
 pub mod Chaining
 pub mod LeftOut
 pub mod StraightChains
+pub mod Followed

@@ -1,5 +1,5 @@
 -- Straight chains: drafts made again of steps, and where places are joined first.
-use Rattle.std.proofs.Common.{◌≡◌, ℕ, zero, suc, ◌+◌, ◌-◌, ◌<◌, ◌≤◌, inl, inr, List, [], ◌∷◌, ◌++◌, length, take, None, Some, get_or, slice_get, refl, sym, ap, ◌∙◌, subst, arith}
+use Rattle.std.proofs.Common.{◌≡◌, ℕ, zero, suc, ◌+◌, ◌-◌, ◌<◌, ◌≤◌, inl, inr, List, [], ◌∷◌, ◌++◌, length, take, Some, get_or, slice_get, refl, sym, ap, ◌∙◌, subst, arith}
 use Rattle.std.proofs.lemmas.List.{get_or-take, length-take, take_all, take_more}
 use Rattle.std.proofs.lemmas.Option.{slice_get-get_or, slice_get_within, get_or_from_slice_get}
 use Rattle.asl_code.specs.declared.instr.Instr.{Instr}
@@ -98,7 +98,7 @@ due_within : (l : Lowered) (es fs : List Step) → Extends es fs → (why : Caus
 due_within l es fs x (cause.Instruction pc) a b d = (d.0, d.1, d.2, d.3, owed_within l es fs x d.0 d.1 a b d.4)
 due_within l es fs x cause.SameClass a b d = (d.0, d.1, d.2, d.3, d.4, d.5, joined_within es fs x (place.Member d.0) (place.Member d.1) d.6)
 
-reasoned_within : (l : Lowered) (es fs : List Step) (s : Step) → Extends es fs → IsReasoned l es s → IsReasoned l fs s
+pub reasoned_within : (l : Lowered) (es fs : List Step) (s : Step) → Extends es fs → IsReasoned l es s → IsReasoned l fs s
 reasoned_within l es fs s x r = record {
   filled = (r.filled.0, r.filled.1, joined_within es fs x s.from (place.Member r.filled.0) r.filled.2);
   due = due_within l es fs x s.cause s.from s.into r.due;

@@ -3,3 +3,4 @@ pub mod Without
 -- Machinery of the proofs, not of the promise:
 pub mod Draft
 pub mod Chains
+pub mod Following

@@ -1,19 +1,23 @@
 //! By which step places were joined first.
 
-ghost use Rattle.asl_class_reasons.specs.Draft.{IsSized};
+ghost use Rattle.std.specs.Prelude.{◌≡◌, ◌<◌, ◌^◌, ◌+◌, true, IfSome};
+ghost use Rattle.asl_class_reasons.specs.Draft.{number, Has, IsSized};
+ghost use Rattle.asl_class_reasons.specs.Following.{above_of, number_of, IsRootAt, HaveOneRoot, HaveTwoRoots, AreInTrees};
 
 use crate::draft::{Draft, number};
+use crate::place::Step;
 use std::alloc::{AllocError, Global};
 
 /// More levels than a tree of places has.
 const MOST_LEVELS: u32 = 64;
 
 /// Places in trees, each by its number below one that has more places below it, and the number of the step that put it there; that
-/// of a root is the greatest one. No answer rests on these: they say where to look first.
+/// of a root is the greatest one. Nothing is proved of how the trees are made: for each step it is looked whether it joins its places
+/// in them.
 #[derive(Drop)]
 pub(crate) struct JoinNumbers {
-    above: Vec<usize>,
-    numbers: Vec<usize>,
+    pub(crate) above: Vec<usize>,
+    pub(crate) numbers: Vec<usize>,
     sizes: Vec<usize>,
 }
 
@@ -45,12 +49,16 @@ impl JoinNumbers {
     }
 
     /// The place above another; itself for a root.
-    fn above(&self, place: usize) -> usize {
+    fn above(&self, place: usize) -> usize
+        ensures { result ≡ above_of self.now place }
+    {
         self.above.get(place).copied().unwrap_or(place)
     }
 
     /// The number of the step that put a place below another.
-    fn number(&self, place: usize) -> usize {
+    fn number(&self, place: usize) -> usize
+        ensures { result ≡ number_of self.now place }
+    {
         self.numbers.get(place).copied().unwrap_or(usize::MAX)
     }
 
@@ -111,5 +119,66 @@ impl JoinNumbers {
             }
         }
         step
+    }
+
+    /// The highest place above another to which the steps before the one of a number lead; none where the way is too long.
+    fn root_at(&self, before: usize, place: usize) -> Option<usize>
+        ensures { IfSome result (IsRootAt self.now before place) }
+    {
+        let mut at = place;
+        for _ in 0..MOST_LEVELS {
+            if self.number(at) >= before {
+                return Some(at);
+            }
+            at = self.above(at);
+        }
+        None
+    }
+
+    /// Whether the steps before the one of a number leave two places in two trees.
+    pub(crate) fn are_apart(&self, before: usize, one: usize, other: usize) -> bool
+        ensures { result ≡ true → HaveTwoRoots self.now before one other }
+    {
+        match (self.root_at(before, one), self.root_at(before, other)) {
+            (Some(first), Some(second)) => first != second,
+            _ => false,
+        }
+    }
+
+    /// Whether the steps before the one of a number have two places in one tree.
+    fn are_one(&self, before: usize, one: usize, other: usize) -> bool
+        ensures { result ≡ true → HaveOneRoot self.now before one other }
+    {
+        match (self.root_at(before, one), self.root_at(before, other)) {
+            (Some(first), Some(second)) => first == second,
+            _ => false,
+        }
+    }
+
+    /// Whether the steps up to the one of a number, this one too, have its places in one tree.
+    fn meets(&self, members: u32, step: Step, index: usize) -> bool
+        requires few { members < 2 ^ 20 }
+        requires there { Has members 65536 step.from × Has members 65536 step.into }
+        requires low { index < 2 ^ 63 }
+        ensures { result ≡ true → HaveOneRoot self.now (index + 1) (number members step.from) (number members step.into) }
+    {
+        let from = number(members, step.from) as usize;
+        let into = number(members, step.into) as usize;
+        self.are_one(index + 1, from, into)
+    }
+
+    /// How many of the first steps of a draft have their places in one tree once they are made, of so many.
+    pub(crate) fn met(&self, draft: &Draft, count: usize) -> usize
+        requires { IsSized draft.now }
+        ensures { AreInTrees self.now draft.now.members draft.now.steps.items result }
+    {
+        let steps = draft.steps.as_slice();
+        let count = count.min(steps.len());
+        for index in 0..count {
+            if !self.meets(draft.members, steps[index], index) {
+                return index;
+            }
+        }
+        count
     }
 }

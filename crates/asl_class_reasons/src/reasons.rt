@@ -23,17 +23,20 @@ pub struct Reasons {
     pub(crate) draft: Draft,
     pub(crate) ends: StepEnds,
     pub(crate) joins: JoinNumbers,
+    /// How many of the first steps joined places that were apart. The others make chains shorter.
+    pub(crate) made: usize,
 }
 
 impl Model for Reasons {
     ghost use Rattle.asl_class_reasons.specs.Reasons.{Found};
     ghost use Rattle.asl_class_reasons.specs.Draft.{IsSized};
+    ghost use Rattle.asl_class_reasons.specs.Following.{AreInTrees};
 
     ghost Value = { Found };
 
     ghost view = { λ r. record { members = r.draft.members; functions = r.draft.functions; steps = r.draft.steps.items } };
 
-    ghost invariant = { λ r. IsSized r.draft };
+    ghost invariant = { λ r. IsSized r.draft × AreInTrees r.joins r.draft.members r.draft.steps.items r.made };
 }
 
 /// How many globals and sites a program has.
@@ -70,12 +73,19 @@ pub fn reasons_of(alloc: Global, lowering: &Lowering) -> Result<Reasons, AllocEr
 {
     let owed = program_owed(alloc, lowering)?;
     let mut draft = settled(alloc, lowering, &owed)?;
+    let made = draft.steps.len();
     for one in &owed {
         draft.shorten(*one)?;
     }
     let ends = StepEnds::new(alloc, &draft, draft.steps.as_slice())?;
     let joins = JoinNumbers::new(alloc, &draft)?;
-    Ok(Reasons { draft, ends, joins })
+    let made = joins.met(&draft, made);
+    Ok(Reasons {
+        draft,
+        ends,
+        joins,
+        made,
+    })
 }
 
 impl Reasons {

@@ -5,11 +5,13 @@ ghost use Rattle.asl_lower.specs.Lowered.{Lowered};
 ghost use Rattle.asl_class_reasons.specs.Draft.{IsSized, IsFounded, IsOf, IsThereFlow};
 ghost use Rattle.asl_class_reasons.specs.Chains.{AreStepsThere};
 ghost use Rattle.asl_class_reasons.specs.Reasons.{Joined, AreReasons, AreReasonsOf, AreReasonedBy, IsStraight};
+ghost use Rattle.asl_class_reasons.specs.Following.{AreFollowing};
 
 use crate::chains::search;
 use crate::draft::{Draft, number};
 use crate::flow::Owed;
 use crate::flows::program_owed;
+use crate::following::Following;
 use crate::place::{Link, Place, Step};
 use crate::reasons::Reasons;
 use crate::search::is_there;
@@ -191,16 +193,52 @@ impl Reasons {
         }
     }
 
+    /// Whether the first steps, so many of them, leave two places apart, as far as the trees show it.
+    fn are_left_apart(&self, count: usize, from: Place, into: Place) -> bool
+        ensures { result ≡ true → ¬ Joined (take count self.now.steps) from into }
+    {
+        if count > self.made
+            || !is_there(self.draft.members, self.draft.functions, from)
+            || !is_there(self.draft.members, self.draft.functions, into)
+        {
+            return false;
+        }
+        let one = number(self.draft.members, from) as usize;
+        let other = number(self.draft.members, into) as usize;
+        self.joins.are_apart(count, one, other)
+    }
+
+    /// A shortest chain from one place to another by the steps that follow from the first so many, if these leave the two apart and
+    /// such a chain is found among them.
+    fn straight_by(
+        &self,
+        alloc: Global,
+        following: &Following,
+        before: usize,
+        from: Place,
+        into: Place,
+    ) -> Result<Option<StraightChain>, AllocError>
+        ensures { (l : Lowered) → AreFollowing l self.now.steps following.now → IfOk result (λ o. IfSome o (IsStraight l self.now.steps from into)) }
+    {
+        if self.are_left_apart(before, from, into) {
+            following.chain(alloc, before, from, into)
+        } else {
+            Ok(None)
+        }
+    }
+
     /// A chain from one place to another that is no circle: a shortest one by all steps that those reason which were made before the
     /// two were joined. None where no chain leads there, and for one place. Any places are allowed.
     pub fn straight_chain(
         &self,
         alloc: Global,
         lowering: &Lowering,
+        following: &Following,
         from: Place,
         into: Place,
     ) -> Result<Option<StraightChain>, AllocError>
-        requires { AreReasonsOf lowering.now self.now }
+        requires reasons { AreReasonsOf lowering.now self.now }
+        requires following { AreFollowing lowering.now self.now.steps following.now }
         ensures straight { IfOk result (λ o. IfSome o (IsStraight lowering.now self.now.steps from into)) }
         ensures none { IfOk result (λ o. o ≡ None → from ≢ into → ¬ Joined self.now.steps from into) }
     {
@@ -208,6 +246,9 @@ impl Reasons {
             return Ok(None);
         }
         let first = self.joins.first(self.number_of(from), self.number_of(into));
+        if let Some(chain) = self.straight_by(alloc, following, first, from, into)? {
+            return Ok(Some(chain));
+        }
         if let Some(chain) = self.straight_at(alloc, lowering, first, from, into)? {
             return Ok(Some(chain));
         }

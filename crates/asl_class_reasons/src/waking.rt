@@ -102,7 +102,7 @@ fn look_at_cells(draft: &mut Draft, waiting: &mut Waiting, member: u32) -> Resul
 }
 
 /// The number of the place for which a step that is not due waits: it points nowhere.
-fn lacking(draft: &mut Draft, flow: Flow) -> u32
+pub(crate) fn lacking(draft: &mut Draft, flow: Flow) -> u32
     requires sized { IsSized draft.old }
     requires there { IsThereFlow draft.old flow }
     ensures same { draft.new ≡ draft.old }
