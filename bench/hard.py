@@ -222,3 +222,13 @@ def copied_on(members):
         onward = f"z=f{n + 1}({name(here)});" if n + 1 < functions else ""
         text += f"fn f{n}(a){{{lines}{onward}return a;}}"
     return text + "fn main(t){p=new 1;p=f0(p);return t;}"
+
+
+def sorted_out(functions, classes, members, filling):
+    """Functions with so many classes each, of so many new objects each, and so many statements more: for each object beside the first of its
+    class a chain is looked for that joins the two, in a long program."""
+    text = ""
+    for f in range(functions):
+        made = "".join(f"{name(c)}=new 1;" * members + f"atomic{{*{name(c)}={name(c)};}}" for c in range(classes))
+        text += f"fn f{f}(){{z=1;{made}{'z=1;' * filling}return z;}}"
+    return text + "fn main(t){" + "".join(f"r=f{f}();" for f in range(functions)) + "return t;}"
