@@ -115,7 +115,7 @@ fn told(alloc: Global, source: &[u8], map: Map, all: bool) -> Result<String, All
 {
     let reasoned = reasoned_with(alloc, source, map)?;
     let facts = &reasoned.known.facts;
-    let told = told_classes(alloc, facts, &reasoned.reasons, all)?;
+    let told = told_classes(alloc, facts, &reasoned.reasons, &reasoned.following, all)?;
     text_of(alloc, facts, all, &told)
 }
 

@@ -1,6 +1,7 @@
 //! What told chains rest on: why two steps, one after the other, come to the same cells.
 ghost use Rattle.std.specs.Prelude.{◌≡◌, ◌<◌, ◌+◌, List, true, false, IfOk, length, slice_get};
 ghost use Rattle.asl_class_reasons.specs.Reasons.{Joined, AreReasonsOf};
+ghost use Rattle.asl_class_reasons.specs.Following.{AreFollowing};
 ghost use Rattle.asl_class_text.specs.declared.told.ToldPair.{ToldPair as PairValue};
 ghost use Rattle.asl_class_text.specs.Grounds.{beside, address_at, address_in, address_by, address_of, is_cells, IsOf, Tells, most_grounds, AreGrounds};
 ghost use Rattle.asl_class_text.specs.Kinds.{end_of};
@@ -11,7 +12,7 @@ use crate::kinds::end_of;
 use crate::making::chain_of;
 use crate::phrases::owner;
 use crate::told::{ToldGround, ToldGrounds, ToldPair, ToldStep};
-use asl_class_reasons::{Cause, Place, Reasons};
+use asl_class_reasons::{Cause, Following, Place, Reasons};
 use asl_code::Instr;
 use std::alloc::{AllocError, Global};
 
@@ -108,12 +109,14 @@ fn push_ground(
     alloc: Global,
     facts: &Facts<'_>,
     reasons: &Reasons,
+    following: &Following,
     most: usize,
     before: ToldStep,
     after: ToldStep,
     grounds: &mut ToldGrounds,
 ) -> Result<(), AllocError>
     requires reasons { AreReasonsOf facts.now.lowering reasons.now }
+    requires following { AreFollowing facts.now.lowering reasons.now.steps following.now }
     requires joined { is_cells (end_of before) ≡ true → Joined reasons.now.steps (address_of facts.now.lowering before) (address_of facts.now.lowering after) }
     ensures { IfOk result (λ _. IsMet facts.now.lowering reasons.now.steps most before after grounds.old grounds.new) }
 {
@@ -129,7 +132,7 @@ fn push_ground(
         grounds.more = true;
         return Ok(());
     }
-    let chain = chain_of(alloc, facts, reasons, one, other)?;
+    let chain = chain_of(alloc, facts, reasons, following, one, other)?;
     grounds.items.push(ToldGround { one, other, chain })?;
     Ok(())
 }
@@ -139,18 +142,22 @@ fn push_grounds(
     alloc: Global,
     facts: &Facts<'_>,
     reasons: &Reasons,
+    following: &Following,
     most: usize,
     chain: &[ToldStep],
     grounds: &mut ToldGrounds,
 ) -> Result<(), AllocError>
     requires reasons { AreReasonsOf facts.now.lowering reasons.now }
+    requires following { AreFollowing facts.now.lowering reasons.now.steps following.now }
     requires straight { IsStraightAnywhere facts.now.lowering reasons.now.steps chain.now }
     ensures { IfOk result (λ _. IsGone facts.now.lowering reasons.now.steps most chain.now (length chain.now) grounds.old grounds.new) }
 {
     for number in 1..chain.len() {
         let before = chain[number - 1];
         let after = chain[number];
-        push_ground(alloc, facts, reasons, most, before, after, grounds)?;
+        push_ground(
+            alloc, facts, reasons, following, most, before, after, grounds,
+        )?;
     }
     Ok(())
 }
@@ -160,17 +167,27 @@ fn pairs_grounds(
     alloc: Global,
     facts: &Facts<'_>,
     reasons: &Reasons,
+    following: &Following,
     most: usize,
     pairs: &[ToldPair],
 ) -> Result<ToldGrounds, AllocError>
     requires reasons { AreReasonsOf facts.now.lowering reasons.now }
+    requires following { AreFollowing facts.now.lowering reasons.now.steps following.now }
     requires straight { AreStraight facts.now.lowering reasons.now.steps pairs.now }
     ensures { IfOk result (ArePairsGone facts.now.lowering reasons.now.steps most pairs.now (length pairs.now)) }
 {
     let items = Vec::new(alloc);
     let mut grounds = ToldGrounds { items, more: false };
     for pair in pairs {
-        push_grounds(alloc, facts, reasons, most, &pair.chain, &mut grounds)?;
+        push_grounds(
+            alloc,
+            facts,
+            reasons,
+            following,
+            most,
+            &pair.chain,
+            &mut grounds,
+        )?;
     }
     Ok(grounds)
 }
@@ -194,17 +211,19 @@ fn push_own(
     alloc: Global,
     facts: &Facts<'_>,
     reasons: &Reasons,
+    following: &Following,
     most: usize,
     number: usize,
     grounds: &mut ToldGrounds,
 ) -> Result<(), AllocError>
     requires reasons { AreReasonsOf facts.now.lowering reasons.now }
+    requires following { AreFollowing facts.now.lowering reasons.now.steps following.now }
     requires straight { AreStraightGrounds facts.now.lowering reasons.now.steps grounds.old.items.items }
     ensures { (ps : List PairValue) → AreGroundsGone facts.now.lowering reasons.now.steps most ps number grounds.old → IfOk result (λ _. AreGroundsGone facts.now.lowering reasons.now.steps most ps (number + 1) grounds.new) }
 {
     if number < grounds.items.len() {
         let chain = steps_of(alloc, &grounds.items, number)?;
-        push_grounds(alloc, facts, reasons, most, &chain, grounds)?;
+        push_grounds(alloc, facts, reasons, following, most, &chain, grounds)?;
     }
     Ok(())
 }
@@ -214,16 +233,18 @@ pub(crate) fn grounds_of(
     alloc: Global,
     facts: &Facts<'_>,
     reasons: &Reasons,
+    following: &Following,
     most: usize,
     pairs: &[ToldPair],
 ) -> Result<ToldGrounds, AllocError>
     requires reasons { AreReasonsOf facts.now.lowering reasons.now }
+    requires following { AreFollowing facts.now.lowering reasons.now.steps following.now }
     requires straight { AreStraight facts.now.lowering reasons.now.steps pairs.now }
     ensures { IfOk result (AreGrounds facts.now.lowering reasons.now.steps most pairs.now) }
 {
-    let mut grounds = pairs_grounds(alloc, facts, reasons, most, pairs)?;
+    let mut grounds = pairs_grounds(alloc, facts, reasons, following, most, pairs)?;
     for number in 0..most {
-        push_own(alloc, facts, reasons, most, number, &mut grounds)?;
+        push_own(alloc, facts, reasons, following, most, number, &mut grounds)?;
     }
     Ok(grounds)
 }

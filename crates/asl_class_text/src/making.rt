@@ -2,6 +2,7 @@
 ghost use Rattle.std.specs.Prelude.{◌≡◌, ◌≢◌, ◌<◌, ◌≤◌, ◌^◌, ◌++◌, length, IfOk, OnOk};
 ghost use Rattle.asl_class_reasons.specs.declared.place.Place.TheVariants.{Member};
 ghost use Rattle.asl_class_reasons.specs.Reasons.{IsChain, Joined, AreReasonsOf};
+ghost use Rattle.asl_class_reasons.specs.Following.{AreFollowing};
 ghost use Rattle.asl_class_text.specs.Chains.{IsToldChain, IsStraightChain};
 ghost use Rattle.asl_class_text.specs.Texts.{shown};
 ghost use Rattle.asl_class_text.specs.Classes.{one_of, members_of, IsOther, AreOthers, ArePairs, IsToldClass, AreToldClasses};
@@ -12,7 +13,7 @@ use crate::facts::Facts;
 use crate::grounds::{grounds_of, most_grounds};
 use crate::parting::{all_trials, class_trials, parting};
 use crate::told::{ToldClass, ToldPair, ToldStep};
-use asl_class_reasons::{Place, Reasons, StraightChain};
+use asl_class_reasons::{Following, Place, Reasons, StraightChain};
 use std::alloc::{AllocError, Global};
 
 /// So many members are told where not all are; where there are more, one less than that and how many are left.
@@ -74,15 +75,18 @@ pub(crate) fn chain_of(
     alloc: Global,
     facts: &Facts<'_>,
     reasons: &Reasons,
+    following: &Following,
     from: Place,
     into: Place,
 ) -> Result<Vec<ToldStep>, AllocError>
     requires reasons { AreReasonsOf facts.now.lowering reasons.now }
+    requires following { AreFollowing facts.now.lowering reasons.now.steps following.now }
     requires two { from ≢ into }
     requires joined { Joined reasons.now.steps from into }
     ensures { IfOk result (λ chain. IsStraightChain facts.now.lowering reasons.now.steps from into chain.items) }
 {
-    let Some(straight) = reasons.straight_chain(alloc, &facts.lowering, from, into)? else {
+    let Some(straight) = reasons.straight_chain(alloc, &facts.lowering, following, from, into)?
+    else {
         unreachable!()
     };
     steps_of(alloc, &straight, from, into)
@@ -93,18 +97,20 @@ fn pair_of(
     alloc: Global,
     facts: &Facts<'_>,
     reasons: &Reasons,
+    following: &Following,
     trials: &mut u32,
     first: u32,
     second: u32,
 ) -> Result<ToldPair, AllocError>
     requires reasons { AreReasonsOf facts.now.lowering reasons.now }
+    requires following { AreFollowing facts.now.lowering reasons.now.steps following.now }
     requires order { first < second }
     requires joined { Joined reasons.now.steps (Member first) (Member second) }
     ensures { IfOk result (IsOther facts.now.lowering reasons.now.steps first second) }
 {
     let from = Place::Member(first);
     let into = Place::Member(second);
-    let chain = chain_of(alloc, facts, reasons, from, into)?;
+    let chain = chain_of(alloc, facts, reasons, following, from, into)?;
     let without = parting(alloc, facts, trials, first, second, &chain)?;
     Ok(ToldPair {
         first,
@@ -119,17 +125,19 @@ fn pairs_of(
     alloc: Global,
     facts: &Facts<'_>,
     reasons: &Reasons,
+    following: &Following,
     trials: &mut u32,
     first: u32,
     others: &[u32],
 ) -> Result<Vec<ToldPair>, AllocError>
     requires reasons { AreReasonsOf facts.now.lowering reasons.now }
+    requires following { AreFollowing facts.now.lowering reasons.now.steps following.now }
     requires joined { AreJoined reasons.now.steps first others.now }
     ensures { IfOk result (λ v. AreOthers facts.now.lowering reasons.now.steps first others.now (length others.now) v.items) }
 {
     let mut pairs = Vec::new(alloc);
     for second in others {
-        let pair = pair_of(alloc, facts, reasons, trials, first, *second)?;
+        let pair = pair_of(alloc, facts, reasons, following, trials, first, *second)?;
         pairs.push(pair)?;
     }
     Ok(pairs)
@@ -140,16 +148,18 @@ fn told_pairs(
     alloc: Global,
     facts: &Facts<'_>,
     reasons: &Reasons,
+    following: &Following,
     trials: &mut u32,
     told: &[u32],
 ) -> Result<Vec<ToldPair>, AllocError>
     requires reasons { AreReasonsOf facts.now.lowering reasons.now }
+    requires following { AreFollowing facts.now.lowering reasons.now.steps following.now }
     requires joined { AreAllJoined reasons.now.steps told.now }
     ensures { IfOk result (λ v. ArePairs facts.now.lowering reasons.now.steps told.now v.items) }
 {
     match told.split_first() {
         Some((first, others)) if others.len() > 0 => pairs_of(
-            alloc, facts, reasons, trials, *first, others,
+            alloc, facts, reasons, following, trials, *first, others,
         ),
         _ => Ok(Vec::new(alloc)),
     }
@@ -161,19 +171,21 @@ pub(crate) fn told_class(
     alloc: Global,
     facts: &Facts<'_>,
     reasons: &Reasons,
+    following: &Following,
     trials: &mut u32,
     all: bool,
     class: u16,
 ) -> Result<ToldClass, AllocError>
     requires few { length facts.now.classes.items < 2 ^ 20 }
     requires reasons { AreReasonsOf facts.now.lowering reasons.now }
+    requires following { AreFollowing facts.now.lowering reasons.now.steps following.now }
     requires joined { AreClassesJoined reasons.now.steps facts.now.classes.items }
     ensures { IfOk result (IsToldClass facts.now.lowering facts.now.classes.items reasons.now.steps all class) }
 {
     let members = members_of(alloc, &facts.classes, class)?;
     let told = &members[..shown(all, members.len())];
-    let pairs = told_pairs(alloc, facts, reasons, trials, told)?;
-    let grounds = grounds_of(alloc, facts, reasons, most_grounds(all), &pairs)?;
+    let pairs = told_pairs(alloc, facts, reasons, following, trials, told)?;
+    let grounds = grounds_of(alloc, facts, reasons, following, most_grounds(all), &pairs)?;
     Ok(ToldClass {
         class,
         members,
@@ -187,10 +199,12 @@ pub(crate) fn told_classes(
     alloc: Global,
     facts: &Facts<'_>,
     reasons: &Reasons,
+    following: &Following,
     all: bool,
 ) -> Result<Vec<ToldClass>, AllocError>
     requires few { length facts.now.classes.items < 2 ^ 20 }
     requires reasons { AreReasonsOf facts.now.lowering reasons.now }
+    requires following { AreFollowing facts.now.lowering reasons.now.steps following.now }
     requires joined { AreClassesJoined reasons.now.steps facts.now.classes.items }
     ensures { IfOk result (λ v. AreToldClasses facts.now.lowering facts.now.classes.items facts.now.count reasons.now.steps all v.items) }
 {
@@ -199,7 +213,7 @@ pub(crate) fn told_classes(
     for class in 0..facts.count {
         let given = class_trials(left);
         let mut trials = given;
-        classes.push(told_class(alloc, facts, reasons, &mut trials, all, class)?)?;
+        classes.push(told_class(alloc, facts, reasons, following, &mut trials, all, class)?)?;
         left = left.saturating_sub(given.saturating_sub(trials));
     }
     Ok(classes)

@@ -9,7 +9,7 @@ use crate::facts::{Known, known_with};
 use crate::lines::push_reasons;
 use crate::making::told_class;
 use crate::told::ToldClass;
-use asl_class_reasons::{Reasons, reasons_of};
+use asl_class_reasons::{Following, Reasons, reasons_of};
 use asl_map::{Map, MapFault, map_of};
 use std::alloc::{AllocError, Global};
 use std::marker::Model;
@@ -19,11 +19,13 @@ use std::marker::Model;
 pub struct Reasoned<'s> {
     pub(crate) known: Known<'s>,
     pub(crate) reasons: Reasons,
+    pub(crate) following: Following,
 }
 
 impl<'s> Model for Reasoned<'s> {
     ghost use Rattle.std.specs.Prelude.{◌<◌, ◌^◌, length};
     ghost use Rattle.asl_class_reasons.specs.Reasons.{AreReasonsOf};
+    ghost use Rattle.asl_class_reasons.specs.Following.{AreFollowing};
     ghost use Rattle.asl_class_text.specs.Made.{AreClassesJoined};
     ghost use Rattle.asl_class_text.specs.Reasoned.{Reasoned as ReasonedValue};
 
@@ -31,7 +33,7 @@ impl<'s> Model for Reasoned<'s> {
 
     ghost view = { λ r. record { known = r.known; steps = r.reasons.steps } };
 
-    ghost invariant = { λ r. (length r.known.facts.classes.items < 2 ^ 20) × AreReasonsOf r.known.facts.lowering r.reasons × AreClassesJoined r.reasons.steps r.known.facts.classes.items };
+    ghost invariant = { λ r. (length r.known.facts.classes.items < 2 ^ 20) × AreReasonsOf r.known.facts.lowering r.reasons × AreFollowing r.known.facts.lowering r.reasons.steps r.following × AreClassesJoined r.reasons.steps r.known.facts.classes.items };
 }
 
 /// A source with this map, and the reasons.
@@ -45,7 +47,12 @@ pub(crate) fn reasoned_with<'s>(
 {
     let known = known_with(alloc, source, map)?;
     let reasons = reasons_of(alloc, &known.facts.lowering)?;
-    Ok(Reasoned { known, reasons })
+    let following = reasons.following(alloc, &known.facts.lowering)?;
+    Ok(Reasoned {
+        known,
+        reasons,
+        following,
+    })
 }
 
 /// A source with its classes, and the reasons why their members share them.
@@ -83,7 +90,15 @@ impl Reasoned<'_> {
     ) -> Result<ToldClass, AllocError>
         ensures { IfOk result (IsToldClass self.now.known.facts.lowering self.now.known.facts.classes.items self.now.steps all class) }
     {
-        told_class(alloc, &self.known.facts, &self.reasons, trials, all, class)
+        told_class(
+            alloc,
+            &self.known.facts,
+            &self.reasons,
+            &self.following,
+            trials,
+            all,
+            class,
+        )
     }
 
     /// Adds why the members of a class share it: nothing of a class with one member.
