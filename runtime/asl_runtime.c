@@ -79,7 +79,9 @@ static uint32_t read_lists(aslr_runtime *made, const aslr_program *program) {
 
 /* ---- objects */
 
-/* Memory for objects, of one alignment; NULL where there is none. */
+/* Memory for an object, aligned to 16 bytes, since what is asked for is a multiple of 16; NULL where there is none. An address needs 8
+ * alone: its last bits, which aslr_object_of leaves out, say what a value is. By 16, what stands before the cells is in one line of the
+ * cache. */
 static void *allocate(mine *self, size_t bytes) {
   if (!self->free_at || (size_t)(self->free_end - self->free_at) < bytes) {
     block *made = aligned_alloc(64, BLOCK);
@@ -183,6 +185,7 @@ static uint32_t processors(void) {
   return found > 0 ? (uint32_t)found : 1;
 }
 
+/* Chooses the engine of the runtime, by the options, and opens it: it stays the same until the runtime is closed. */
 uint32_t aslr_open(const aslr_program *program, const aslr_options *options, aslr_runtime **runtime) {
   static const aslr_options DEFAULTS;
   if (!program || !runtime || !program->lists || (!program->class_of_global && program->globals)) return ASLR_NULL_POINTER;

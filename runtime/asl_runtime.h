@@ -287,8 +287,8 @@ extern const aslr_program *const aslr_printed;
 
 /* `main` of an emitted program. usage: PROGRAM [--engine forest|words] [--counts] [--share-numbers] [THREADS]
  * THREADS, 1 to 10,000, is how many threads run its entry, each with its number, from 0; left out, as many as there are processors. It prints
- * `T out V`, `T done V` and `T fault F`, then `global G V` for each global. Returns 0 where all threads are done, 1 where memory or the start
- * of a thread is refused, with one line on standard error, 2 for other words, 3 where a thread failed. One call at a time. */
+ * `T out V`, `T done V` and `T fault F`, then `global G V` for each global. Returns 0 where all threads are done, 1 where memory, the start
+ * of a thread or the output is refused, with one line on standard error, 2 for other words, 3 where a thread failed. One call at a time. */
 int aslr_main(const aslr_program *program, int argc, char **argv);
 
 #endif
