@@ -13,7 +13,7 @@ use Rattle.asl_lower.specs.Regions.{Inside}
 use Rattle.asl_lock_expr.specs.Links.{LinkContext, view, IsOne, is_register, settle, link}
 use Rattle.asl_lock_expr.specs.Stores.{stores}
 use Rattle.asl_lock_expr.specs.Order.{AreInOrder}
-use Rattle.asl_backward_flow.specs.Needed.{RegionNeeds, IsInNeeds, IsTold, HasNoPart}
+use Rattle.asl_backward_flow.specs.Needed.{RegionNeeds, IsInNeeds, HasNoPart}
 use Rattle.asl_emitter.proofs.Reducing.{one_of_more, more_of_one}
 use Rattle.asl_explain.specs.declared.explain_analysis.ExplainAnalysis.{ExplainAnalysis}
 use Rattle.asl_explain.specs.declared.explained_value.Ended.{Ended}

@@ -19,7 +19,7 @@ use Rattle.asl_explain.specs.declared.explained_value.Lists.TheVariants.{Inferre
 use Rattle.asl_explain.specs.declared.explained_value.Explanation.{Explanation}
 use Rattle.asl_explain.specs.Chains.{Read}
 use Rattle.asl_explain.specs.Explained.{AreExplained, AreListsAt, IsExplained, IsExplanation}
-use Rattle.asl_explain.specs.Told.{IsText}
+use Rattle.asl_explain.specs.Told.{IsText, IsMadeOf, sections_told}
 use Rattle.asl_explain.specs.Telling.{IsTextOf}
 use Rattle.asl_explain.specs.Analysed.{read, AreSections, AreFittedAt, IsMade, IsOfSource}
 
@@ -135,6 +135,9 @@ module _ (source : List ℕ) (k : ℕ) (a : ExplainAnalysis) (of : IsOfSource so
     classes = t.classes;
     are_told = t.are_told;
     front = t.front;
-    tells = t.tells;
+    tells = subst
+        (λ (n : ℕ). IsMadeOf (sections_told (record { facts = t.reasoned.known.facts; k_limit = n; by_length = t.explanation.by_length; classes = t.classes; all = all }) 0 t.explanation.sections t.explanation.ended) t.front)
+        of.same
+        t.tells;
     ends = t.ends;
   }

@@ -1,6 +1,6 @@
 -- What is needed is the same for another length of paths, where all that is needed has shorter ones, and none that are longer than the other.
-use Rattle.std.proofs.Common.{◌≡◌, ⊎_elim, ℕ, suc, zero, ◌+◌, ◌<◌, ◌≤◌, ◌&&◌, ◌++◌, Bool, true, false, cond, List, [], ◌∷◌, Option, Some, None, length, slice_get, refl, ap, ap₂, sym, ◌∙◌, subst, inl, inr, arith, leb, le-leb}
-use Rattle.std.specs.Prelude.{nat_le, nat_lt, option_and_then}
+use Rattle.std.proofs.Common.{◌≡◌, ⊎_elim, ℕ, suc, ◌+◌, ◌<◌, ◌≤◌, ◌&&◌, ◌++◌, Bool, true, false, cond, List, [], ◌∷◌, Option, Some, None, length, refl, ap, ap₂, sym, ◌∙◌, subst, inl, inr, arith, leb, le-leb}
+use Rattle.std.specs.Prelude.{nat_lt, option_and_then}
 use Rattle.std.specs.List.{flat_map}
 use Rattle.asl_code.specs.declared.instr.Instr.{Instr}
 use Rattle.asl_code.specs.declared.instr.Instr.TheVariants as instr
@@ -19,7 +19,7 @@ use Rattle.asl_points_to.specs.Classes.{Classed, to}
 use Rattle.asl_lock_expr.specs.ClassOf.{base_class, step_class, class_of}
 use Rattle.asl_lock_expr.specs.Links.{view, IsOne, on, class_lock, settled, settle, is_register, is_star, is_class, begins_with_star, hits, replaced, before, link, accesses, renamed, renamed_on}
 use Rattle.asl_lock_expr.proofs.Ones.{one_either, one_left, one_right}
-use Rattle.asl_backward_flow.specs.Needed.{Needed, NeedsMany, RegionNeeds, Accessed, Linked, Entered, Before}
+use Rattle.asl_backward_flow.specs.Needed.{Needed, RegionNeeds, Accessed, Linked, Entered, Before}
 use Rattle.asl_backward_flow.specs.Flows.{IsFlow}
 use Rattle.asl_explain.specs.Lengths.{IsBelow}
 

@@ -5,7 +5,10 @@ mod Analysing
 mod Needing
 mod Dropping
 mod Explaining
-mod Pieces
+mod Piecing
+mod Blanks
+mod Chosen
+mod Rowing
 mod Sectionwise
 mod Walking
 mod Reasons

@@ -1,16 +1,14 @@
 -- Where all that is needed has shorter paths, the lists of an analysis are those of other lengths, too.
-use Rattle.std.proofs.Common.{◌≡◌, ◌+◌, ◌<◌, ◌≤◌, ⊎_elim, ℕ, suc, List, [], ◌∷◌, ◌++◌, inl, inr, length, Some, slice_get, refl, sym, ap, ◌∙◌, subst, arith}
+use Rattle.std.proofs.Common.{◌≡◌, ◌+◌, ◌<◌, ◌≤◌, ⊎_elim, ℕ, suc, List, [], ◌∷◌, ◌++◌, inl, inr, length, Some, slice_get, sym, ap, ◌∙◌, subst, arith}
 use Rattle.std.proofs.lemmas.Option.{same_Some, slice_get_within}
 use Rattle.std.proofs.Math.Nat.{eq-or-lt_of_le}
-use Rattle.asl_code.specs.declared.image.Function.{Function}
 use Rattle.asl_code.specs.declared.lock.Lock.{Lock}
-use Rattle.asl_lower.specs.declared.section.Section.{Section}
 use Rattle.asl_lower.specs.Lowered.{Lowered}
 use Rattle.asl_points_to.specs.Classes.{Classed}
 use Rattle.asl_code.specs.declared.lock.Lock.TheVariants as lock
-use Rattle.asl_lower.specs.Regions.{Region, Body, Inside, IsIn}
+use Rattle.asl_lower.specs.Regions.{Region, Body, Inside}
 use Rattle.asl_lock_expr.specs.Stores.{stores}
-use Rattle.asl_backward_flow.specs.Needed.{Needed, RegionNeeds, IsInNeeds, IsTold, AreParts}
+use Rattle.asl_backward_flow.specs.Needed.{Needed, RegionNeeds, IsInNeeds, AreParts}
 use Rattle.asl_backward_flow.proofs.Alike.{tests_same, needed_same}
 use Rattle.asl_backward_flow.proofs.Leasts.{needed_inside}
 use Rattle.asl_backward_flow.specs.Flows.{IsFlow}
@@ -18,7 +16,7 @@ use Rattle.asl_emitter.specs.BuiltImage.{AreFitted}
 use Rattle.asl_explain.specs.declared.explain_analysis.ExplainAnalysis.{ExplainAnalysis}
 use Rattle.asl_explain.specs.declared.explained_value.Lists.{Lists}
 use Rattle.asl_explain.specs.declared.explained_value.Lists.TheVariants.{Inferred}
-use Rattle.asl_explain.specs.Chains.{Read, Needs}
+use Rattle.asl_explain.specs.Chains.{Needs}
 use Rattle.asl_explain.specs.Analysed.{read, IsAnalysed, AreFittedAt, AreEachFitted}
 use Rattle.asl_explain.specs.Lengths.{IsBelow, AreBelow, IsRegionBelow, AreSectionsBelow, AreBodiesBelow, AreNeedsBelow}
 use Rattle.asl_explain.proofs.Ends.{get_more}

@@ -5,5 +5,8 @@ pub mod Told
 -- Machinery of the proofs, not of the promise:
 pub mod Analysed
 pub mod Endings
+pub mod Gaps
 pub mod Lengths
 pub mod Telling
+pub mod TellingChains
+pub mod TellingLists

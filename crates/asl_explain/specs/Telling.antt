@@ -1,52 +1,53 @@
 -- Machinery of the proofs, not of the promise: what a call adds to a text (src/text.rt).
-use Rattle.std.specs.Prelude.{◌≡◌, ℕ, zero, suc, List, [], ◌∷◌, ◌++◌, Bool, if◌then◌else◌, Option, None, Some, length, slice_get}
+use Rattle.std.specs.Prelude.{◌≡◌, ℕ, suc, List, [], ◌∷◌, ◌++◌, Bool, if◌then◌else◌, Option, None, Some, length, slice_get}
 use Rattle.std.specs.List.{list_any}
 use Rattle.asl_code.specs.declared.lock.Lock.{Lock}
 use Rattle.asl_lower.specs.declared.section.Section.{Section}
-use Rattle.asl_class_text.specs.declared.facts.Facts.{Facts}
 use Rattle.asl_class_text.specs.Reasoned.{Reasoned, IsReasoned}
 use Rattle.asl_warnings.specs.Texts.{warnings_text}
 use Rattle.asl_explain.specs.declared.class_reasons.ClassTold.{ClassTold}
-use Rattle.asl_explain.specs.declared.class_reasons.ClassTeller.{ClassTeller}
 use Rattle.asl_explain.specs.declared.explain_analysis.ExplainAnalysis.{ExplainAnalysis}
 use Rattle.asl_explain.specs.declared.explained_value.Listed.{Listed}
 use Rattle.asl_explain.specs.declared.explained_value.Ended.{Ended}
 use Rattle.asl_explain.specs.declared.explained_value.Explanation.{Explanation}
+use Rattle.asl_explain.specs.declared.text.Teller.{Teller}
 use Rattle.asl_explain.specs.Chains.{Read}
 use Rattle.asl_explain.specs.Explained.{AreEnded}
 use Rattle.asl_explain.specs.Analysed.{AreListed, AreSections, AreEndedBelow, IsMade}
 use Rattle.asl_explain.specs.ClassReasons.{is_on, IsToldIf, AreTold}
-use Rattle.asl_explain.specs.Told.{StandIn, lock_pieces, told_of, told_from}
+use Rattle.asl_explain.specs.Told.{Part, IsMadeOf, Given, section_told, sections_told, parting_words}
 
--- the new text is the old one with more after it, in which the pieces stand
-pub record Tells (pieces : List (List ℕ)) (old new : List ℕ) : Type 0 where
+-- the new text is the old one with more after it, which is made of the parts
+pub record Tells (parts : List Part) (old new : List ℕ) : Type 0 where
   pub more : List ℕ
   pub added : new ≡ old ++ more
-  pub stand : StandIn pieces more
+  pub made : IsMadeOf parts more
 
--- the pieces of a lock and of a section, from what they are written from
-abbrev pub pieces_of : ClassTeller → ℕ → Listed → List (List ℕ)
-pieces_of t section d = lock_pieces t.reasoned.now.known.facts t.all t.told.now section d
-
--- the pieces of the section of this number, whose list has these locks
-abbrev pub section_pieces : ClassTeller → ℕ → List Listed → List (List ℕ)
-section_pieces t section listed = told_of t.reasoned.now.known.facts t.all t.told.now section listed
+-- what a teller writes from
+abbrev pub given : Teller → Given
+given t = record {
+  facts = t.places.now.reasoned.now.known.facts;
+  k_limit = t.analysis.now.k_limit;
+  by_length = t.by_length.now;
+  classes = t.told.now;
+  all = t.all;
+}
 
 -- the new text is the old one and a section with this list, explained
-pub record TellsSection (x : Read) (section : ℕ) (is : Section) (list : List Lock) (f : Facts) (all : Bool) (ts : List (Option ClassTold)) (old new : List ℕ) : Type 0 where
+pub record TellsSection (x : Read) (section : ℕ) (is : Section) (list : List Lock) (g : Given) (old new : List ℕ) : Type 0 where
   pub listed : List Listed
   pub ended : List Ended
   pub made : AreListed x section is list listed
   pub ends : AreEnded x section ended
-  pub tells : Tells (told_of f all ts section listed) old new
+  pub tells : Tells (section_told g section listed ended) old new
 
 -- the text is that of the first sections with these lists, so many of them, explained
-pub record TellsSections (x : Read) (lists : List (List Lock)) (f : Facts) (all : Bool) (ts : List (Option ClassTold)) (so_many : ℕ) (text : List ℕ) : Type 0 where
+pub record TellsSections (x : Read) (lists : List (List Lock)) (g : Given) (so_many : ℕ) (text : List ℕ) : Type 0 where
   pub sections : List (List Listed)
   pub ended : List (List Ended)
   pub made : AreSections x lists so_many sections
   pub ends : AreEndedBelow x so_many ended
-  pub tells : Tells (told_from f all ts zero sections) [] text
+  pub tells : Tells (sections_told g 0 sections ended) [] text
 
 -- ---- what is told of classes, by the lists alone
 
@@ -73,5 +74,5 @@ pub record IsTextOf (a : ExplainAnalysis) (source : List ℕ) (all : Bool) (text
   pub classes : List (Option ClassTold)
   pub are_told : AreTold reasoned all explanation.sections reasoned.known.facts.count classes
   pub front : List ℕ
-  pub tells : StandIn (told_from reasoned.known.facts all classes zero explanation.sections) front
-  pub ends : text ≡ front ++ warnings_text reasoned.known
+  pub tells : IsMadeOf (sections_told (record { facts = reasoned.known.facts; k_limit = a.k_limit; by_length = explanation.by_length; classes = classes; all = all }) 0 explanation.sections explanation.ended) front
+  pub ends : text ≡ front ++ (parting_words front (warnings_text reasoned.known) ++ warnings_text reasoned.known)

@@ -1,13 +1,13 @@
 //! The explanation of a source.
-ghost use Rattle.std.specs.Prelude.{◌≡◌, ◌≤◌, ◌++◌, ℕ, List, IfOk, IfErr, OnOk, length, string_bytes};
+ghost use Rattle.std.specs.Prelude.{◌≡◌, ◌≤◌, ◌++◌, IfOk, IfErr, OnOk, length, string_bytes};
 ghost use Rattle.asl_emitter.specs.Sources.{IsAcceptedSource};
 ghost use Rattle.asl_explain.specs.Explained.{IsExplanation, IsRefusedExplanation};
 ghost use Rattle.asl_warnings.specs.Texts.{warnings_text};
-ghost use Rattle.asl_explain.specs.Told.{IsText};
+ghost use Rattle.asl_explain.specs.Told.{IsText, parting_words};
 ghost use Rattle.asl_explain.specs.Analysed.{read, IsAnalysed, IsOfSource};
 ghost use Rattle.asl_explain.specs.Telling.{AreToldBy, IsTextOf, TellsSections};
 
-use crate::class_reasons::{ClassTeller, ClassTold, told_classes};
+use crate::class_reasons::{ClassTold, told_classes};
 use crate::explain_analysis::{ExplainAnalysis, analyse};
 use crate::explained_text::text_of;
 use crate::explained_value::{Explanation, Lists};
@@ -94,7 +94,6 @@ fn told(
     let told = told_of(alloc, &reasoned, own, all)?;
     let mut text = lists_text(
         alloc,
-        source,
         analysis,
         own,
         by_length.as_slice(),
@@ -122,7 +121,6 @@ fn told_of(
 /// The text of the lists of an analysis, which are these, and those of each length.
 fn lists_text(
     alloc: Global,
-    source: &[u8],
     analysis: &ExplainAnalysis,
     lists: &[Items<Lock>],
     by_length: &[Lists],
@@ -132,22 +130,18 @@ fn lists_text(
 ) -> Result<String, AllocError>
     requires analysed { IsAnalysed analysis.now }
     requires count { length lists.now ≡ length analysis.now.lowering.sections }
-    ensures { IfOk result (λ text. TellsSections (read analysis.now) lists.now reasoned.now.known.facts all told.now (length analysis.now.lowering.sections) (string_bytes text)) }
+    ensures { IfOk result (λ text. TellsSections (read analysis.now) lists.now (record { facts = reasoned.now.known.facts; k_limit = analysis.now.k_limit; by_length = by_length.now; classes = told.now; all = all }) (length analysis.now.lowering.sections) (string_bytes text)) }
 {
-    let places = places_of(alloc, source, analysis, &reasoned.known().facts.map)?;
+    let places = places_of(alloc, reasoned)?;
     let teller = Teller {
         alloc,
         analysis,
         places: &places,
         by_length,
-        all,
-    };
-    let classes = ClassTeller {
-        reasoned,
         told,
         all,
     };
-    text_of(&teller, analysis, &classes, lists)
+    text_of(&teller, analysis, lists)
 }
 
 /// Adds what the source may lack, behind an empty line where something stands before it.
@@ -156,7 +150,7 @@ fn push_warnings(
     text: &mut String,
     reasoned: &Reasoned<'_>,
 ) -> Result<(), AllocError>
-    ensures { OnOk result ((between : List ℕ) × (string_bytes text.new ≡ string_bytes text.old ++ (between ++ warnings_text reasoned.now.known))) }
+    ensures { OnOk result (string_bytes text.new ≡ string_bytes text.old ++ (parting_words (string_bytes text.old) (warnings_text reasoned.now.known) ++ warnings_text reasoned.now.known)) }
 {
     let warnings = warnings_text(alloc, reasoned.known())?;
     let between = parting(text.as_str(), warnings.as_str());
@@ -166,7 +160,9 @@ fn push_warnings(
 }
 
 /// An empty line between two parts; nothing where there is only one.
-fn parting(first: &str, second: &str) -> &'static str {
+fn parting(first: &str, second: &str) -> &'static str
+    ensures { result.now ≡ parting_words first.now second.now }
+{
     if first.is_empty() || second.is_empty() {
         ""
     } else {

@@ -2,8 +2,9 @@
 ghost use Rattle.std.specs.Prelude.{◌≡◌, ◌++◌, Some, IfOk, OnOk, length, slice_get, string_bytes};
 ghost use Rattle.std.specs.List.{flat_map};
 ghost use Rattle.asl_explain.specs.Analysed.{read, IsAnalysed};
-ghost use Rattle.asl_explain.specs.Told.{section_words, count_words};
-ghost use Rattle.asl_explain.specs.Telling.{Tells, TellsSection, TellsSections, pieces_of, section_pieces};
+ghost use Rattle.asl_explain.specs.Told.{section_in, section_words, count_words, head_told, lock_told, section_told};
+ghost use Rattle.asl_explain.specs.ClassReasons.{lock_block};
+ghost use Rattle.asl_explain.specs.Telling.{Tells, TellsSection, TellsSections, given};
 
 use crate::class_reasons::{ClassTeller, push_lock_block};
 use crate::ended::ended_of;
@@ -11,9 +12,8 @@ use crate::explain_analysis::ExplainAnalysis;
 use crate::explained_value::{Ended, Listed};
 use crate::making::explained_section;
 use crate::search::{Others, Searcher, Statements};
-use crate::text::{MAX_EXPLAINED, Teller};
+use crate::text::{MAX_EXPLAINED, Teller, push_between, push_plural};
 use asl_code::{Items, Lock};
-use asl_lock_words::push_assembly;
 use asl_lower::Section;
 use std::alloc::AllocError;
 use std::fmt::Write;
@@ -22,12 +22,11 @@ use std::fmt::Write;
 pub fn text_of(
     teller: &Teller<'_>,
     analysis: &ExplainAnalysis,
-    classes: &ClassTeller<'_>,
     lists: &[Items<Lock>],
 ) -> Result<String, AllocError>
     requires analysed { IsAnalysed analysis.now }
     requires count { length lists.now ≡ length analysis.now.lowering.sections }
-    ensures { IfOk result (λ text. TellsSections (read analysis.now) lists.now classes.now.reasoned.now.known.facts classes.now.all classes.now.told.now (length analysis.now.lowering.sections) (string_bytes text)) }
+    ensures { IfOk result (λ text. TellsSections (read analysis.now) lists.now (given teller.now) (length analysis.now.lowering.sections) (string_bytes text)) }
 {
     let mut searcher = searcher_of(teller, analysis)?;
     let mut text = String::new(teller.alloc);
@@ -37,7 +36,6 @@ pub fn text_of(
         push_explained(
             teller,
             analysis,
-            classes,
             &mut searcher,
             &mut text,
             number,
@@ -61,7 +59,6 @@ fn searcher_of(teller: &Teller<'_>, analysis: &ExplainAnalysis) -> Result<Search
 fn push_explained(
     teller: &Teller<'_>,
     analysis: &ExplainAnalysis,
-    classes: &ClassTeller<'_>,
     searcher: &mut Searcher,
     text: &mut String,
     number: u16,
@@ -70,14 +67,13 @@ fn push_explained(
 ) -> Result<(), AllocError>
     requires analysed { IsAnalysed analysis.now }
     requires there { slice_get analysis.now.lowering.sections number ≡ Some section }
-    ensures { OnOk result (TellsSection (read analysis.now) number section list.now classes.now.reasoned.now.known.facts classes.now.all classes.now.told.now (string_bytes text.old) (string_bytes text.new)) }
+    ensures { OnOk result (TellsSection (read analysis.now) number section list.now (given teller.now) (string_bytes text.old) (string_bytes text.new)) }
 {
     let alloc = teller.alloc;
     let listed = explained_section(alloc, analysis, searcher, number, section, list)?;
     let ended = ended_of(alloc, analysis, searcher, number, section)?;
     push_section(
         teller,
-        classes,
         text,
         usize::from(number),
         listed.as_slice(),
@@ -104,76 +100,90 @@ fn push_count(text: &mut String, count: usize) -> Result<(), AllocError>
 /// Adds a section with these locks, those that end in it, and the statements of which no chain is kept.
 fn push_section(
     teller: &Teller<'_>,
-    classes: &ClassTeller<'_>,
     text: &mut String,
     number: usize,
     listed: &[Listed],
     ended: &[Ended],
     others: &Others,
 ) -> Result<(), AllocError>
-    ensures { OnOk result (Tells (section_pieces classes.now number listed.now) (string_bytes text.old) (string_bytes text.new)) }
+    ensures { OnOk result (Tells (section_told (given teller.now) number listed.now ended.now) (string_bytes text.old) (string_bytes text.new)) }
 {
     let section = teller.section(number);
-    let between = if number > 0 { "\n" } else { "" };
-    text.push_str(between)?;
-    push_number(text, number)?;
-    text.push_str(teller.place_of_section(section)?.as_str())?;
-    push_count(text, listed.len())?;
-    text.push_str(teller.rest_of_head(number, section, listed)?.as_str())?;
-    push_locks(
-        teller,
-        classes,
-        text,
-        number,
-        section.function,
-        listed,
-        others,
-    )?;
-    text.push_str(teller.rest_of_section(number, section, ended)?.as_str())?;
+    push_between(text, number)?;
+    push_head(teller, text, number, section, listed)?;
+    push_locks(teller, text, number, listed, others)?;
+    teller.push_ended(text, section.function, ended)?;
+    text.push_str("\n")?;
+    teller.push_lengths(text, number)?;
     Ok(())
 }
 
-/// Adds the locks of the list of a section of a function.
+/// Adds the first line of a section, and why expressions became classes.
+fn push_head(
+    teller: &Teller<'_>,
+    text: &mut String,
+    number: usize,
+    section: Section,
+    listed: &[Listed],
+) -> Result<(), AllocError>
+    requires { section ≡ section_in (given teller.now).facts number }
+    ensures { OnOk result (Tells (head_told (given teller.now) number (length listed.now)) (string_bytes text.old) (string_bytes text.new)) }
+{
+    push_number(text, number)?;
+    teller.push_place_of_section(text, section)?;
+    push_count(text, listed.len())?;
+    push_plural(text, listed.len())?;
+    text.push_str(teller.coarse_words(number, section, listed)?.as_str())?;
+    Ok(())
+}
+
+/// Adds the locks of the list of a section.
 fn push_locks(
     teller: &Teller<'_>,
-    classes: &ClassTeller<'_>,
     text: &mut String,
     section: usize,
-    function: u16,
     listed: &[Listed],
     others: &Others,
 ) -> Result<(), AllocError>
-    ensures { OnOk result (Tells (flat_map (pieces_of classes.now section) listed.now) (string_bytes text.old) (string_bytes text.new)) }
+    ensures { OnOk result (Tells (flat_map (lock_told (given teller.now) section) listed.now) (string_bytes text.old) (string_bytes text.new)) }
 {
     for (place, lock) in listed.iter().enumerate() {
-        push_lock(
-            teller,
-            classes,
-            text,
-            section,
-            function,
-            lock,
-            others.under(place),
-        )?;
+        push_lock(teller, text, section, lock, others.under(place))?;
     }
     Ok(())
 }
 
-/// Adds a lock of the list of a section of a function, with the statements of the needs under it of which no chain is kept.
+/// Adds a lock of the list of a section, with the statements of the needs under it of which no chain is kept.
 fn push_lock(
     teller: &Teller<'_>,
-    classes: &ClassTeller<'_>,
     text: &mut String,
     section: usize,
-    function: u16,
     listed: &Listed,
     others: &[Statements],
 ) -> Result<(), AllocError>
-    ensures { OnOk result (Tells (pieces_of classes.now section listed.now) (string_bytes text.old) (string_bytes text.new)) }
+    ensures { OnOk result (Tells (lock_told (given teller.now) section listed.now) (string_bytes text.old) (string_bytes text.new)) }
 {
-    text.push_str(teller.before_spelling(function, &listed.lock)?.as_str())?;
-    push_assembly(text, &listed.lock)?;
-    text.push_str(teller.behind_spelling(function, listed, others)?.as_str())?;
-    push_lock_block(teller.alloc, text, classes, section, &listed.lock)?;
+    let function = teller.section(section).function;
+    teller.push_lock_line(text, function, &listed.lock)?;
+    teller.push_chains(text, function, listed)?;
+    teller.push_others(text, function, listed, others)?;
+    push_block(teller, text, section, &listed.lock)?;
     Ok(())
+}
+
+/// Adds why the members of a lock's class share it, if it is on a class.
+fn push_block(
+    teller: &Teller<'_>,
+    text: &mut String,
+    section: usize,
+    lock: &Lock,
+) -> Result<(), AllocError>
+    ensures { OnOk result (string_bytes text.new ≡ string_bytes text.old ++ lock_block (given teller.now).facts (given teller.now).all (given teller.now).classes section lock.now) }
+{
+    let classes = ClassTeller {
+        reasoned: teller.places.reasoned,
+        told: teller.told,
+        all: teller.all,
+    };
+    push_lock_block(teller.alloc, text, &classes, section, lock)
 }

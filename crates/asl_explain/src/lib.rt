@@ -1,7 +1,6 @@
 //! Why the lists of a program are as they are: each lock with the statements that need it, and how it came to the section's start.
 #![tactic(auto)]
 
-mod class_members;
 mod class_reasons;
 mod confirm;
 mod confirm_step;
@@ -12,6 +11,7 @@ mod explained_source;
 mod explained_text;
 mod explained_value;
 mod fault;
+mod gaps;
 mod laws;
 mod links;
 mod lists_by_length;

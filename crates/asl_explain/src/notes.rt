@@ -35,7 +35,7 @@ impl Teller<'_> {
     fn name_of(&self, region: Region, base: Base, ops: &[Op]) -> Result<String, AllocError> {
         cell_words(
             self.alloc,
-            self.places.map,
+            self.places.map(),
             self.function_of(region),
             base,
             ops,

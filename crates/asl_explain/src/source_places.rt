@@ -1,207 +1,186 @@
 //! The names of a source, and its statements by their instructions.
+ghost use Rattle.std.specs.Prelude.{◌≡◌, true, IfOk, string_bytes, slice_get};
+ghost use Rattle.std.specs.Option.{option_copied};
+ghost use Rattle.asl_code.specs.declared.lock.Base.TheVariants.{Reg};
+ghost use Rattle.asl_map.specs.Text.{is_marked};
+ghost use Rattle.asl_lock_words.specs.Words.{name_or, base_name, function_words};
+ghost use Rattle.asl_class_text.specs.Places.{area_of_site, line_at, stretch};
+ghost use Rattle.asl_explain.specs.Gaps.{are_gaps};
+ghost use Rattle.asl_class_text.specs.Texts.{name_words, global_words, site_words, member_words, one_line, statement_at};
 
-use crate::class_members::{Members, members_of};
-use crate::explain_analysis::ExplainAnalysis;
-use asl_map::Map;
+use crate::gaps::{Gap, find_gaps, one_line};
+use asl_class_text::{Facts, Reasoned, line_of};
+use asl_code::Base;
+use asl_lock_words::base_name;
+use asl_map::{Area, Map};
 use asl_syntax::Name;
 use std::alloc::{AllocError, Global};
-
-/// A stretch of so many blanks has a place of its own, so that no telling of a statement goes through them.
-const MANY_BLANKS: usize = 64;
-
-/// A stretch of many blanks of a source, from a place up to another.
-#[derive(Clone, Copy, PartialEq, Eq, PartialOrd, Ord)]
-struct Gap {
-    from: usize,
-    to: usize,
-}
 
 /// The names and places of a source.
 #[derive(Drop)]
 pub struct Places<'a> {
     alloc: Global,
-    source: &'a [u8],
-    pub map: &'a Map,
-    /// What is in each class.
-    pub members: Members,
-    /// Where each line begins, but for the first.
-    lines: Vec<usize>,
+    /// The source with its map and its classes.
+    pub reasoned: &'a Reasoned<'a>,
     /// The stretches of many blanks, in order.
     gaps: Vec<Gap>,
+    ghost blank: { are_gaps reasoned.now.known.facts.source.now gaps.items ≡ true },
 }
 
-/// The names and places of an analysed source with this map.
-pub fn places_of<'a>(
-    alloc: Global,
-    source: &'a [u8],
-    analysis: &ExplainAnalysis,
-    map: &'a Map,
-) -> Result<Places<'a>, AllocError> {
-    let mut lines = Vec::new(alloc);
-    for (place, byte) in source.iter().enumerate() {
-        if *byte == b'\n' {
-            lines.push(place)?;
-        }
-    }
+/// The names and places of a source with its classes.
+pub fn places_of<'a>(alloc: Global, reasoned: &'a Reasoned<'a>) -> Result<Places<'a>, AllocError>
+    ensures { IfOk result (λ p. p.reasoned.now ≡ reasoned.entry.now) }
+{
+    let gaps = find_gaps(alloc, reasoned.known().facts.source)?;
     Ok(Places {
         alloc,
-        source,
-        map,
-        members: members_of(alloc, &analysis.lowering, &analysis.classes, map)?,
-        lines,
-        gaps: find_gaps(alloc, source)?,
+        reasoned,
+        gaps,
     })
 }
 
-/// The stretches of many blanks between other bytes of a source, in order.
-fn find_gaps(alloc: Global, source: &[u8]) -> Result<Vec<Gap>, AllocError> {
-    let mut gaps = Vec::new(alloc);
-    let mut from: usize = 0;
-    for (to, byte) in source.iter().enumerate() {
-        if !is_blank(*byte) {
-            if to.saturating_sub(from) >= MANY_BLANKS {
-                gaps.push(Gap { from, to })?;
-            }
-            from = to.saturating_add(1);
-        }
-    }
-    Ok(gaps)
-}
-
-/// The number of the first stretch that does not begin before a place.
-fn first_gap(gaps: &[Gap], place: usize) -> usize {
-    match gaps.binary_search(&Gap { from: place, to: 0 }) {
-        Ok(number) | Err(number) => number,
+/// A name, or a letter and a number where there is none.
+fn name_or(
+    alloc: Global,
+    name: Option<&Name>,
+    letter: &str,
+    number: u16,
+) -> Result<String, AllocError>
+    ensures { IfOk result (λ text. string_bytes text ≡ name_or (option_copied name.entry) letter.now number) }
+{
+    match name {
+        Some(name) => format!(in alloc; "{name}"),
+        None => format!(in alloc; "{letter}{number}"),
     }
 }
 
-/// How many of the places, which rise, are below this one.
-fn count_below(places: &[usize], place: usize) -> usize {
-    let mut low = 0;
-    let mut high = places.len();
-    while low < high {
-        let middle = low + (high - low) / 2;
-        if places[middle] < place {
-            low = middle + 1;
-        } else {
-            high = middle;
-        }
+/// A name as a text, which is empty where there is none.
+fn name_words(alloc: Global, name: Option<&Name>) -> Result<String, AllocError>
+    ensures { IfOk result (λ text. string_bytes text ≡ name_words (option_copied name.entry)) }
+{
+    match name {
+        Some(name) => format!(in alloc; "{name}"),
+        None => Ok(String::new(alloc)),
     }
-    low
 }
 
-/// Whether the byte is a blank of the language.
-fn is_blank(byte: u8) -> bool {
-    byte == b' ' || byte == b'\t' || byte == b'\n' || byte == b'\r'
+/// Whether a number has a mark.
+fn is_marked(marks: &[bool], number: usize) -> bool
+    ensures { result ≡ is_marked marks.now number }
+{
+    marks.get(number).copied().unwrap_or(false)
 }
 
 impl Places<'_> {
-    /// A name as a text; a number after a letter where there is none.
-    fn name(&self, name: Option<&Name>, letter: &str, number: u16) -> Result<String, AllocError> {
-        match name {
-            Some(name) => {
-                let mut text = String::new(self.alloc);
-                for byte in name.as_slice() {
-                    text.push(char::from(*byte))?;
-                }
-                Ok(text)
-            }
-            None => format!(in self.alloc; "{letter}{number}"),
-        }
+    /// What is known of the source.
+    pub fn facts(&self) -> &Facts<'_>
+        ensures { result.now ≡ self.now.reasoned.now.known.facts }
+    {
+        &self.reasoned.known().facts
+    }
+
+    /// The map of the source.
+    pub fn map(&self) -> &Map
+        ensures { result.now ≡ self.now.reasoned.now.known.facts.map }
+    {
+        &self.facts().map
     }
 
     /// The name of a register of a function; an argument's register has none, and is told by its number.
-    pub fn register(&self, function: u16, register: u8) -> Result<String, AllocError> {
-        let name = self.map.register_name(function, register);
-        self.name(name, "r", u16::from(register))
-    }
-
-    /// The name of a global.
-    pub fn global(&self, global: u16) -> Result<String, AllocError> {
-        self.name(self.map.global_name(global), "g", global)
+    pub fn register(&self, function: u16, register: u8) -> Result<String, AllocError>
+        ensures { IfOk result (λ text. string_bytes text ≡ base_name self.now.reasoned.now.known.facts.map function (Reg register)) }
+    {
+        base_name(self.alloc, self.map(), function, Base::Reg(register))
     }
 
     /// The name of a function.
-    pub fn function(&self, function: u16) -> Result<String, AllocError> {
-        self.name(self.map.function_name(function), "f", function)
+    pub fn function(&self, function: u16) -> Result<String, AllocError>
+        ensures { IfOk result (λ text. string_bytes text ≡ function_words self.now.reasoned.now.known.facts.map function) }
+    {
+        name_or(
+            self.alloc,
+            self.map().function_name(function),
+            "f",
+            function,
+        )
     }
 
     /// Whether `main` reaches a function, itself or through others.
-    pub fn is_reached(&self, function: u16) -> bool {
-        match self.map.reached.get(usize::from(function)) {
-            Some(mark) => *mark,
-            None => false,
-        }
+    pub fn is_reached(&self, function: u16) -> bool
+        ensures { result ≡ is_marked self.now.reasoned.now.known.facts.map.reached function }
+    {
+        is_marked(&self.map().reached, usize::from(function))
     }
 
     /// The line of the statement of an instruction, from 1.
-    pub fn line(&self, pc: u16) -> usize {
-        match self.map.place(pc) {
-            Some(piece) => count_below(&self.lines, piece.from).saturating_add(1),
+    pub fn line(&self, pc: u16) -> usize
+        ensures { result ≡ line_at self.now.reasoned.now.known.facts pc }
+    {
+        match self.map().place(pc) {
+            Some(piece) => line_of(self.facts(), piece.from),
             None => 0,
         }
     }
 
     /// The text of the statement of an instruction, in one line, without what ends it.
-    pub fn statement(&self, pc: u16) -> Result<String, AllocError> {
-        let mut text = String::new(self.alloc);
-        if let Some(piece) = self.map.place(pc) {
-            self.push_statement(&mut text, piece.from, piece.to)?;
-            drop_end(&mut text);
+    pub fn statement(&self, pc: u16) -> Result<String, AllocError>
+        ensures { IfOk result (λ text. string_bytes text ≡ statement_at self.now.reasoned.now.known.facts pc) }
+    {
+        match self.map().place(pc) {
+            Some(piece) => self.stretch(piece.from, piece.to),
+            None => Ok(String::new(self.alloc)),
         }
-        Ok(text)
     }
 
-    /// Adds the words of a statement that stands from a place up to another, with one blank between two of them.
-    fn push_statement(&self, text: &mut String, from: usize, to: usize) -> Result<(), AllocError> {
-        let mut from = from;
-        let mut was_blank = false;
-        for number in first_gap(&self.gaps, from)..self.gaps.len() {
-            let gap = self.gaps[number];
-            if gap.from >= to {
-                break;
-            }
-            push_words(text, self.bytes(from, gap.from), was_blank)?;
-            was_blank = true;
-            from = gap.to;
-        }
-        push_words(text, self.bytes(from, to), was_blank)
+    /// The bytes from a place up to the last one before another, in one line.
+    fn stretch(&self, from: usize, to: usize) -> Result<String, AllocError>
+        ensures { IfOk result (λ text. string_bytes text ≡ one_line (stretch self.now.reasoned.now.known.facts.source.now from to)) }
+    {
+        one_line(self.alloc, self.facts().source, &self.gaps, from, to)
     }
 
-    /// The bytes from a place up to another; none where that is before it.
-    fn bytes(&self, from: usize, to: usize) -> &[u8] {
-        if from <= to && to <= self.source.len() {
-            &self.source[from..to]
+    /// A member of a class, a global or a site.
+    pub fn member(&self, member: u32) -> Result<String, AllocError>
+        ensures { IfOk result (λ text. string_bytes text ≡ member_words self.now.reasoned.now.known.facts member) }
+    {
+        let member = member as usize;
+        let globals = usize::from(self.facts().lowering.globals());
+        if member < globals {
+            self.global(member)
         } else {
-            &[]
+            self.site(member - globals)
         }
     }
-}
 
-/// Drops the blanks, semicolons and opening braces at the end of a text.
-fn drop_end(text: &mut String) {
-    for _ in 0..text.len() {
-        match text.as_bytes().last() {
-            Some(last) if is_blank(*last) || *last == b';' || *last == b'{' => {}
-            _ => break,
-        }
-        text.pop();
+    /// A global: `` `queue` ``.
+    fn global(&self, global: usize) -> Result<String, AllocError>
+        ensures { IfOk result (λ text. string_bytes text ≡ global_words self.now.reasoned.now.known.facts global) }
+    {
+        let name = name_words(self.alloc, self.map().globals.get(global))?;
+        format!(in self.alloc; "`{name}`")
     }
-}
 
-/// Adds the words of a part of a statement, with one blank between two of them, and one before the first if there was one.
-fn push_words(text: &mut String, bytes: &[u8], is_behind_blank: bool) -> Result<(), AllocError> {
-    let mut was_blank = is_behind_blank;
-    for byte in bytes {
-        if is_blank(*byte) {
-            was_blank = true;
-        } else {
-            if was_blank {
-                text.push(' ')?;
-            }
-            was_blank = false;
-            text.push(char::from(*byte))?;
+    /// A site, by its line and its statement: ``line 8 `n = new 2` ``.
+    fn site(&self, site: usize) -> Result<String, AllocError>
+        ensures { IfOk result (λ text. string_bytes text ≡ site_words self.now.reasoned.now.known.facts site) }
+    {
+        let area = self.area(site);
+        let line = line_of(self.facts(), area.from);
+        let statement = self.stretch(area.from, area.to)?;
+        format!(in self.alloc; "line {line} `{statement}`")
+    }
+
+    /// Where a site stands.
+    fn area(&self, site: usize) -> Area
+        ensures { result ≡ area_of_site self.now.reasoned.now.known.facts site }
+    {
+        match self.map().sites.get(site) {
+            Some(area) => *area,
+            None => Area {
+                function: 0,
+                from: 0,
+                to: 0,
+            },
         }
     }
-    Ok(())
 }

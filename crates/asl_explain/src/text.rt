@@ -1,13 +1,21 @@
 //! The words of an explanation: sections, locks, and the lines of chains.
+ghost use Rattle.std.specs.Prelude.{◌≡◌, ◌∷◌, [], ◌++◌, Some, IfOk, OnOk, string_bytes};
+ghost use Rattle.std.specs.List.{flat_map};
+ghost use Rattle.asl_class_text.specs.Texts.{place_columns};
+ghost use Rattle.asl_explain.specs.Told.{Note, has_line_end, words_in, section_in, function_of, never_words, place_words, plural_words, between_words, made_by, made_words, new_line, ending_lines, ended_line, ended_lines};
+ghost use Rattle.asl_explain.specs.Telling.{Tells, given};
 
 mod chains;
 mod classes;
 mod lists;
+mod members;
 
+use crate::class_reasons::ClassTold;
 use crate::explain_analysis::ExplainAnalysis;
 use crate::explained_value::{Ended, Ending, Listed, Lists};
 use crate::source_places::Places;
 use asl_backward_flow::Region;
+use asl_class_text::{Facts, push_padded};
 use asl_code::{Base, Lock};
 use asl_lock_words::lock_words;
 use asl_lower::Section;
@@ -31,6 +39,8 @@ pub struct Teller<'a> {
     pub places: &'a Places<'a>,
     /// The lists with paths of at most 0 to 8 operations.
     pub by_length: &'a [Lists],
+    /// What is told of each class.
+    pub told: &'a [Option<ClassTold>],
     /// Whether every chain is told.
     pub all: bool,
 }
@@ -48,42 +58,57 @@ fn plural(count: usize) -> &'static str {
     if count == 1 { "" } else { "s" }
 }
 
-/// Adds blanks until the text since a place is so wide; one at least.
-fn pad(text: &mut String, from: usize, width: usize) -> Result<(), AllocError> {
-    let len = text.len().saturating_sub(from);
-    pad_behind(text, len, width)
+/// Adds what parts one from those before it.
+pub fn push_between(text: &mut String, number: usize) -> Result<(), AllocError>
+    ensures { OnOk result (string_bytes text.new ≡ string_bytes text.old ++ between_words number) }
+{
+    let between = if number > 0 { "\n" } else { "" };
+    text.push_str(between)
 }
 
-/// Adds blanks after something so long, until both are so wide; one at least.
-fn pad_behind(text: &mut String, len: usize, width: usize) -> Result<(), AllocError> {
-    for _ in len..width {
-        text.push_str(" ")?;
+/// Adds the end of the first line of a section.
+pub fn push_plural(text: &mut String, count: usize) -> Result<(), AllocError>
+    ensures { OnOk result (string_bytes text.new ≡ string_bytes text.old ++ plural_words count) }
+{
+    if count == 1 {
+        text.push_str("\n")
+    } else {
+        text.push_str("s\n")
     }
-    text.push_str(" ")
 }
 
 impl Teller<'_> {
-    /// The words of a lock, by the function's names.
-    fn words(&self, function: u16, lock: &Lock) -> Result<String, AllocError> {
-        lock_words(self.alloc, self.places.map, function, lock)
+    /// What is known of the source.
+    fn facts(&self) -> &Facts<'_>
+        ensures { result.now ≡ (given self.now).facts }
+    {
+        self.places.facts()
     }
 
-    /// The function of a region.
-    pub fn function_of(&self, region: Region) -> u16 {
-        match region {
-            Region::Body(function) => function,
-            Region::Section(section) => {
-                match self.analysis.lowering.sections().get(usize::from(section)) {
-                    Some(section) => section.function,
-                    None => 0,
-                }
-            }
-        }
+    /// The words of a lock, by the function's names.
+    fn words(&self, function: u16, lock: &Lock) -> Result<String, AllocError>
+        ensures { IfOk result (λ text. string_bytes text ≡ words_in (given self.now).facts function lock.now) }
+    {
+        lock_words(self.alloc, self.places.map(), function, lock)
+    }
+
+    /// Adds the words of a lock, by the function's names.
+    fn push_lock_words(
+        &self,
+        text: &mut String,
+        function: u16,
+        lock: &Lock,
+    ) -> Result<(), AllocError>
+        ensures { OnOk result (string_bytes text.new ≡ string_bytes text.old ++ words_in (given self.now).facts function lock.now) }
+    {
+        text.push_str(self.words(function, lock)?.as_str())
     }
 
     /// The section of a number.
-    pub fn section(&self, number: usize) -> Section {
-        match self.analysis.lowering.sections().get(number) {
+    pub fn section(&self, number: usize) -> Section
+        ensures { result ≡ section_in (given self.now).facts number }
+    {
+        match self.facts().lowering.sections().get(number) {
             Some(section) => *section,
             None => Section {
                 function: 0,
@@ -93,80 +118,122 @@ impl Teller<'_> {
         }
     }
 
-    /// Where a section stands, and how long paths are.
-    pub fn place_of_section(&self, section: Section) -> Result<String, AllocError> {
-        let line = self.places.line(section.acquire);
-        let name = self.places.function(section.function)?;
-        let k = self.analysis.k_limit;
-        let never = if self.places.is_reached(section.function) {
+    /// The function of a region.
+    pub fn function_of(&self, region: Region) -> u16
+        ensures { result ≡ function_of (given self.now).facts region }
+    {
+        match region {
+            Region::Body(function) => function,
+            Region::Section(section) => self.section(usize::from(section)).function,
+        }
+    }
+
+    /// That `main` never reaches a function, if it does not.
+    fn never_words(&self, function: u16) -> &'static str
+        ensures { result.now ≡ never_words (given self.now).facts.map function }
+    {
+        if self.places.is_reached(function) {
             ""
         } else {
             ", which main never reaches"
-        };
-        format!(in self.alloc; "line {line}, in {name}{never}, k {k}")
+        }
     }
 
-    /// The end of the first line of a section, and why expressions became classes.
-    pub fn rest_of_head(
+    /// Adds where a section stands, and how long paths are.
+    pub fn push_place_of_section(
         &self,
-        number: usize,
+        text: &mut String,
         section: Section,
-        listed: &[Listed],
-    ) -> Result<String, AllocError> {
-        let mut text = String::new(self.alloc);
-        text.push_str(plural(listed.len()))?;
-        text.push_str("\n")?;
-        self.push_coarse(&mut text, number, section, listed)?;
-        Ok(text)
-    }
-
-    /// What comes after the locks of a section.
-    pub fn rest_of_section(
-        &self,
-        number: usize,
-        section: Section,
-        ended: &[Ended],
-    ) -> Result<String, AllocError> {
-        let mut text = String::new(self.alloc);
-        self.push_ended(&mut text, section.function, ended)?;
-        text.push_str("\n")?;
-        self.push_lengths(&mut text, number, section.function)?;
-        Ok(text)
+    ) -> Result<(), AllocError>
+        ensures { OnOk result (string_bytes text.new ≡ string_bytes text.old ++ place_words (given self.now).facts (given self.now).k_limit section) }
+    {
+        let line = self.places.line(section.acquire);
+        let name = self.places.function(section.function)?;
+        let k = self.analysis.k_limit;
+        let never = self.never_words(section.function);
+        write!(text, "line {line}, in {name}{never}, k {k}")
     }
 
     /// Adds the locks that end at a `new` of a section of the function.
-    fn push_ended(
+    pub fn push_ended(
         &self,
         text: &mut String,
         function: u16,
         ended: &[Ended],
-    ) -> Result<(), AllocError> {
+    ) -> Result<(), AllocError>
+        ensures { OnOk result (Tells (flat_map (ended_lines (given self.now).facts function) ended.now) (string_bytes text.old) (string_bytes text.new)) }
+    {
         for end in ended {
-            let words = self.words(function, &end.lock)?;
-            let made = self.made(function, &end.lock)?;
-            write!(text, "\n  no lock for {words}   ({made} is new)\n")?;
-            if let Some(ending) = &end.ending {
-                self.push_ending(text, ending)?;
-            }
+            self.push_end(text, function, end)?;
         }
         Ok(())
     }
 
-    /// Adds the chain of a lock that ends at a `new`.
-    fn push_ending(&self, text: &mut String, ending: &Ending) -> Result<(), AllocError> {
+    /// Adds a lock that ends at a `new` of a section of the function.
+    fn push_end(&self, text: &mut String, function: u16, end: &Ended) -> Result<(), AllocError>
+        ensures { OnOk result (Tells (ended_lines (given self.now).facts function end.now) (string_bytes text.old) (string_bytes text.new)) }
+    {
+        self.push_end_line(text, function, &end.lock)?;
+        self.push_ending(text, end)?;
+        Ok(())
+    }
+
+    /// Adds the line of a lock that ends at a `new` of a section of the function.
+    fn push_end_line(&self, text: &mut String, function: u16, lock: &Lock) -> Result<(), AllocError>
+        ensures { OnOk result (string_bytes text.new ≡ string_bytes text.old ++ ended_line (given self.now).facts function lock.now) }
+    {
+        let words = self.words(function, lock)?;
+        let made = self.made(function, lock)?;
+        write!(text, "\n  no lock for {words}   ({made} is new)\n")
+    }
+
+    /// Adds the chain of a lock that ends at a `new`, if it is told.
+    fn push_ending(&self, text: &mut String, end: &Ended) -> Result<(), AllocError>
+        ensures { OnOk result (Tells (ending_lines (given self.now).facts end.now.ending) (string_bytes text.old) (string_bytes text.new)) }
+    {
+        match &end.ending {
+            Some(ending) => self.push_told_ending(text, ending),
+            None => Ok(()),
+        }
+    }
+
+    /// Adds a chain that ends at a `new`, and the line of the `new`.
+    fn push_told_ending(&self, text: &mut String, ending: &Ending) -> Result<(), AllocError>
+        ensures { OnOk result (Tells (ending_lines (given self.now).facts (Some ending.now)) (string_bytes text.old) (string_bytes text.new)) }
+    {
         self.push_chain(text, &ending.chain)?;
-        self.push_place(text, ending.pc)?;
-        write_line(text, "ends", "the object is new here: no lock", "")
+        self.push_new(text, ending.pc)?;
+        Ok(())
+    }
+
+    /// Adds the line of the `new` at a pc.
+    fn push_new(&self, text: &mut String, pc: u16) -> Result<(), AllocError>
+        ensures { OnOk result (string_bytes text.new ≡ string_bytes text.old ++ new_line (given self.now).facts pc) }
+    {
+        self.push_place(text, pc)?;
+        push_padded(text, "ends", 8)?;
+        text.push_str("the object is new here: no lock\n")
     }
 
     /// The name of the register on which a lock of a function begins.
-    fn made(&self, function: u16, lock: &Lock) -> Result<String, AllocError> {
-        if let Lock::Expr(expr, _) = lock {
-            if let Base::Reg(register) = expr.base {
-                return self.places.register(function, register);
-            }
+    fn made(&self, function: u16, lock: &Lock) -> Result<String, AllocError>
+        ensures { IfOk result (λ text. string_bytes text ≡ made_words (given self.now).facts.map function lock.now) }
+    {
+        match lock {
+            Lock::Expr(expr, _) => self.made_by(function, expr.base),
+            Lock::Class(_, _) => Ok(String::new(self.alloc)),
+            Lock::Root(_) => Ok(String::new(self.alloc)),
         }
-        Ok(String::new(self.alloc))
+    }
+
+    /// The name of a register.
+    fn made_by(&self, function: u16, base: Base) -> Result<String, AllocError>
+        ensures { IfOk result (λ text. string_bytes text ≡ made_by (given self.now).facts.map function base) }
+    {
+        match base {
+            Base::Reg(register) => self.places.register(function, register),
+            Base::Global(_) => Ok(String::new(self.alloc)),
+        }
     }
 
     /// Where a statement stands, and its text.
@@ -177,20 +244,37 @@ impl Teller<'_> {
     }
 
     /// Adds the line and the statement of an instruction, in columns.
-    fn push_place(&self, text: &mut String, pc: u16) -> Result<(), AllocError> {
+    #[tactic(auto, unfolding(asl_class_text::specs::Texts::place_columns))]
+    fn push_place(&self, text: &mut String, pc: u16) -> Result<(), AllocError>
+        ensures { OnOk result (string_bytes text.new ≡ string_bytes text.old ++ place_columns (given self.now).facts pc) }
+    {
         let line = self.places.line(pc);
-        write!(text, "      line {line:<4} ")?;
-        let from = text.len();
-        text.push_str(self.places.statement(pc)?.as_str())?;
-        pad(text, from, 22)
+        let line = format!(in self.alloc; "{line}")?;
+        let statement = self.places.statement(pc)?;
+        text.push_str("      line ")?;
+        push_padded(text, line.as_str(), 4)?;
+        push_padded(text, statement.as_str(), 22)
     }
 }
 
-/// Adds the last part of a line.
-fn write_line(text: &mut String, verb: &str, words: &str, note: &str) -> Result<(), AllocError> {
-    write!(text, "{verb:<8} {words}")?;
-    if !note.is_empty() {
-        write!(text, "   {note}")?;
+/// Whether a line ends in a text.
+fn has_line_end(text: &str) -> bool
+    ensures { result ≡ has_line_end text.now }
+{
+    for byte in text.as_bytes() {
+        if *byte == b'\n' {
+            return true;
+        }
     }
-    text.push_str("\n")
+    false
+}
+
+/// Adds a note, if there is one. It stays in its line.
+fn push_note(text: &mut String, note: &str) -> Result<(), AllocError>
+    ensures { OnOk result (Tells (Note ∷ []) (string_bytes text.old) (string_bytes text.new)) }
+{
+    if note.is_empty() || has_line_end(note) {
+        return Ok(());
+    }
+    write!(text, "   {note}")
 }

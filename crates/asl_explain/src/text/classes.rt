@@ -1,9 +1,8 @@
-//! Why expressions became classes, and what is in a class.
+//! Why expressions became classes, and the statements that are named in one line.
 
-use crate::class_members::Member;
 use crate::explained_value::Listed;
 use crate::search::Statements;
-use crate::text::{MAX_NAMED, Teller, narrow, pad, pad_behind, plural};
+use crate::text::{MAX_NAMED, Teller, narrow};
 use asl_backward_flow::Region;
 use asl_code::Lock;
 use asl_emitter::{MAX_LOCKS, reduce};
@@ -12,14 +11,14 @@ use std::alloc::AllocError;
 use std::fmt::Write;
 
 impl Teller<'_> {
-    /// Adds why expressions became classes, if the list would be too long.
-    pub(crate) fn push_coarse(
+    /// Why expressions became classes, if the list would be too long.
+    pub(crate) fn coarse_words(
         &self,
-        text: &mut String,
         number: usize,
         section: Section,
         listed: &[Listed],
-    ) -> Result<(), AllocError> {
+    ) -> Result<String, AllocError> {
+        let mut text = String::new(self.alloc);
         let start = u32::from(section.acquire) + 1;
         let all = self
             .analysis
@@ -43,72 +42,7 @@ impl Teller<'_> {
             }
             text.push_str(".\n")?;
         }
-        Ok(())
-    }
-
-    /// What comes before the spelling of a lock: an expression in the words of the source.
-    pub fn before_spelling(&self, function: u16, lock: &Lock) -> Result<String, AllocError> {
-        let mut text = String::new(self.alloc);
-        text.push_str("\n  ")?;
-        if let Lock::Expr(_, _) = lock {
-            let from = text.len();
-            text.push_str(self.words(function, lock)?.as_str())?;
-            pad(&mut text, from, 22)?;
-        }
         Ok(text)
-    }
-
-    /// What comes after the spelling of a lock of a list: what a class has, and the chains.
-    pub fn behind_spelling(
-        &self,
-        function: u16,
-        listed: &Listed,
-        others: &[Statements],
-    ) -> Result<String, AllocError> {
-        let mut text = String::new(self.alloc);
-        match &listed.lock {
-            Lock::Expr(_, _) => {}
-            lock => {
-                pad_behind(&mut text, self.words(function, lock)?.len(), 22)?;
-                match lock {
-                    Lock::Class(class, _) => self.push_members(&mut text, *class)?,
-                    _ => text.push_str("everything")?,
-                }
-            }
-        }
-        text.push_str("\n")?;
-        self.push_chains(&mut text, function, listed)?;
-        if !self.all {
-            self.push_others(&mut text, function, listed, others)?;
-        }
-        Ok(text)
-    }
-
-    /// Adds the members of a class.
-    pub(crate) fn push_members(&self, text: &mut String, class: u16) -> Result<(), AllocError> {
-        let members = self.places.members.of(class);
-        let shown = self.count_shown(members.len());
-        text.push_str("{ ")?;
-        for (place, member) in members.iter().enumerate() {
-            if place >= shown {
-                break;
-            }
-            text.push_str(between(place))?;
-            self.push_member(text, member.member)?;
-        }
-        push_more(text, shown, members.len())?;
-        text.push_str(" }")
-    }
-
-    /// Adds a member of a class.
-    fn push_member(&self, text: &mut String, member: Member) -> Result<(), AllocError> {
-        match member {
-            Member::Global(global) => {
-                let name = self.places.global(global)?;
-                write!(text, "`{name}`")
-            }
-            Member::Site(pc) => text.push_str(self.place(pc)?.as_str()),
-        }
     }
 
     /// Adds the first of these statements, or all of them if they are few.

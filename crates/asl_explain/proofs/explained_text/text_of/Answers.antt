@@ -2,14 +2,14 @@ use Rattle.std.proofs.Common.{◌≡◌, List, Some, length, slice_get, get_or, 
 use Rattle.std.proofs.lemmas.Option.{slice_get-get_or, slice_get_read}
 use Rattle.asl_lower.specs.declared.section.Section.{Section}
 use Rattle.asl_explain.specs.Analysed.{read}
-use Rattle.asl_explain.specs.Telling.{TellsSections}
+use Rattle.asl_explain.specs.Telling.{TellsSections, given}
 use Rattle.asl_explain.proofs.Sectionwise.{tells_no_section, tells_section_more}
 use Rattle.asl_explain.proofs.explained_text.text_of.Goals as goal
 
 pub loop-number-init : goal.loop-number-init
 loop-number-init c =
-    let t = c.args.classes.now in
-    tells_no_section (read c.args.analysis.now) c.args.lists.now t.reasoned.now.known.facts t.all t.told.now _ c.new-text.ensures.bytes
+    let g = given c.args.teller.now in
+    tells_no_section (read c.args.analysis.now) c.args.lists.now g _ c.new-text.ensures.bytes
 
 pub overflow_cast-number : goal.overflow_cast-number
 overflow_cast-number c =
@@ -27,7 +27,7 @@ push_explained-requires-clause-there c =
 pub loop-number-preserved : goal.loop-number-preserved
 loop-number-preserved c =
     let l = c.args.analysis.now.lowering in
-    let t = c.args.classes.now in
+    let g = given c.args.teller.now in
     let n = c.loop-number.number in
     let s : Section = get_or c.sections-section-items.result.now n (record { function = 0; acquire = 0; release = 0 }) in
     let there : slice_get l.sections n ≡ Some s =
@@ -37,16 +37,16 @@ loop-number-preserved c =
     let lt = c.loop-number-test.true in
     let req = c.requires.count in
     let at = slice_get_read c.args.lists.now (length c.args.lists.now) n c.index-lists-number.result refl (omega (arith, many, lt, req)) c.index-lists-number.is in
-    tells_section_more (read c.args.analysis.now) c.args.lists.now t.reasoned.now.known.facts t.all t.told.now n s c.as_slice-list.result.now (string_bytes c.loop-number.text) (string_bytes c.push_explained.new.text) there (at ∙ ap Some (sym c.as_slice-list.ensures))
+    tells_section_more (read c.args.analysis.now) c.args.lists.now g n s c.as_slice-list.result.now (string_bytes c.loop-number.text) (string_bytes c.push_explained.new.text) there (at ∙ ap Some (sym c.as_slice-list.ensures))
     c.loop-number.invariant c.in_ok-push_explained.ensures
 
 pub returns : goal.returns
 returns c =
     let x = read c.args.analysis.now in
     let l = c.args.analysis.now.lowering in
-    let t = c.args.classes.now in
+    let g = given c.args.teller.now in
     let many = ap (length {A = Section}) c.sections-section-items.ensures.sections in
     let past = c.loop-number-test.false in
     let within = c.loop-number.auto.number-end in
     let end : c.loop-number.number ≡ length l.sections = omega (arith, many, past, within) in
-    subst (λ n. TellsSections x c.args.lists.now t.reasoned.now.known.facts t.all t.told.now n (string_bytes c.loop-number.text)) end c.loop-number.invariant
+    subst (λ n. TellsSections x c.args.lists.now g n (string_bytes c.loop-number.text)) end c.loop-number.invariant

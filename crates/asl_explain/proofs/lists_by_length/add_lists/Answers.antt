@@ -1,4 +1,4 @@
-use Rattle.std.proofs.Common.{rules, ◌≡◌, ◌+◌, [], ◌∷◌, ◌++◌, length, ap, subst, arith}
+use Rattle.std.proofs.Common.{rules, ◌≡◌, [], ◌∷◌, ◌++◌, length, ap, subst, arith}
 use Rattle.asl_explain.specs.declared.explained_value.Lists.{Lists}
 use Rattle.asl_explain.specs.Analysed.{AreFittedAt}
 use Rattle.asl_explain.proofs.Ends.{length_more}

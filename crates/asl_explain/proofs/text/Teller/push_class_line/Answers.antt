@@ -1,0 +1,5 @@
+use Rattle.asl_explain.proofs.Piecing.{four}
+use Rattle.asl_explain.proofs.text.Teller.push_class_line.Goals as goal
+
+pub returns : goal.returns
+returns c = four _ _ _ _ _ _ _ _ _ c.in_ok-push_str.ensures.bytes c.in_ok-push_spelled.ensures c.in_ok-push_members.ensures c.in_ok-push_str-2.ensures.bytes
