@@ -12,7 +12,7 @@ fn pieces(alloc: Global, text: &str) -> Result<Vec<&str>, AllocError>
     text.split('\n').collect(alloc)
 }
 
-/// The pieces as words of their own.
+/// The pieces as words of their own, for `ended_over` (call.rt): it is given a `&[String]`, which borrowed pieces are not.
 fn owned(alloc: Global, pieces: &[&str]) -> Result<Vec<String>, AllocError>
     ensures { IfOk result (λ words. map string_bytes words.items ≡ map (λ x. x.now) pieces.now) }
 {

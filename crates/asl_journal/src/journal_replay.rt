@@ -62,8 +62,8 @@ pub fn follow<'p, M: Memory>(
     run_on(memory, machine, events)
 }
 
-/// The machine after the events, each of which replies as it says. Memory hides no event that differs and whose step takes none:
-/// it runs out only at an event whose step may want it, and those before it do not differ.
+/// The machine after the events, each of which replies as it says: compares each reply with the event's. Memory hides no event that
+/// differs and whose step takes none: it runs out only at an event whose step may want it, and those before it do not differ.
 ///
 /// # Errors
 ///

@@ -65,7 +65,7 @@ pub record JoinsAt (at : ℕ) (old from new : List ℕ) : Type 0 where
   pub below : (k : ℕ) → k < at → slice_index new k ≡ slice_index old k
   pub above : (k : ℕ) → at + 4 ≤ k → slice_index new k ≡ slice_index old k
 
--- the lanes below a place are joined, and the others stay
+-- the lanes below a place are joined, and the others stay: what `merge_lanes` has done when it comes to that place
 pub record JoinedBelow (place : ℕ) (old from new : List ℕ) : Type 0 where
   pub count : length new ≡ length old
   pub below : (k : ℕ) → k < place → slice_index new k ≡ bit_or (slice_index old k) (slice_index from k)

@@ -17,8 +17,8 @@ pub record IsParted (l : Lowered) : Type 0 where
   pub one_body : (pc a b : ℕ) → InBody l a pc → InBody l b pc → a ≡ b
   pub in_code : (pc number : ℕ) → InBody l number pc → pc < length l.code
 
--- what is open where control continues is what the instruction leaves open: an `acq` opens its section, a `rel` closes
--- the innermost, and all others change nothing; nothing is open where a body begins and at a `ret`
+-- what is open where control continues is what the instruction leaves open: an `acq` opens its section, a `rel` closes the innermost, and
+-- all others change nothing; nothing is open where a body begins and at a `ret`; a section is open just where the pc lies in it (`opened`)
 pub record IsNested (l : Lowered) : Type 0 where
   pub steps : (pc to : ℕ) (i : Instr) → slice_get l.code pc ≡ Some i → FlowsTo i pc to → open_at l.code to ≡ open_behind (Some i) (open_at l.code pc)
   pub leaves : (pc : ℕ) → slice_get l.code pc ≡ Some instr.Release → open_at l.code pc ≢ []

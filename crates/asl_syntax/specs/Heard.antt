@@ -98,7 +98,7 @@ is_unheard all own m = unknown_use (names_in Globals all) (names_in Functions al
 abbrev pub own_after : Mention → List Mention → List Mention → List Mention
 own_after m own rest = if is_function m then rest else own
 
--- the first of them
+-- the first used name that its name space does not have (`is_unheard`)
 abbrev pub first_unheard : List Mention → List Mention → List Mention → Option (List ℕ)
 first_unheard all own [] = None
 first_unheard all own (m ∷ ms) = or_name (is_unheard all own m) (first_unheard all (own_after m own ms) ms)

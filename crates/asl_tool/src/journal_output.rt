@@ -9,7 +9,7 @@ use asl_journal::{Event, Journal, put_run};
 use asl_show::push_line;
 use std::alloc::{AllocError, Global};
 
-/// What is written of a journal: the run file, or the lines of its events.
+/// What `run` and `step` write of a journal: the lines of its events; with `--record`, in place of the lines, the run file.
 pub fn written(
     alloc: Global,
     program: &Program,

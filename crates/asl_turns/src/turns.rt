@@ -111,11 +111,11 @@ impl Turns {
         }
     }
 
-    /// A new seat with one of the passes that this one has left. It is refused only where fewer than two are left.
+    /// A new seat with one of the passes that this one has left. A seat of another `Turns` would draw tickets here that `finish` misses.
     ///
     /// # Errors
     ///
-    /// `NoPass` where fewer than two passes are left.
+    /// `NoPass`, only where fewer than two passes are left.
     pub fn split(&self, seat: &mut TurnSeat) -> Result<TurnSeat, TurnFault>
         requires { seat.old.of ≡ self.now }
         ensures ok { IfOk result (λ new. (1 < seat.old.left) × (new ≡ record { of = seat.old.of; left = 1; spent = 0; tickets = [] })
