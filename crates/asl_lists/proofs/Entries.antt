@@ -1,5 +1,5 @@
 -- What the functions of a source say of its entries.
-use Rattle.std.proofs.Common.{◌≡◌, ℕ, List, ◌++◌, Result, Ok, Err, IfOk, Some, false, map, slice_get, subst}
+use Rattle.std.proofs.Common.{◌≡◌, ℕ, List, ◌++◌, Result, Ok, Err, IfOk, Some, false, map, slice_get, subst, ◌⊎◌, ⊎_elim, inl, inr, zero, suc, [], ◌∷◌}
 use Rattle.asl_syntax.specs.Tree.{Item}
 use Rattle.asl_syntax.specs.Parsed.{Parses}
 use Rattle.asl_syntax.specs.Rules.{parameter_counts, differs}
@@ -41,3 +41,13 @@ pub entries_refused : {E : Type 0} {X : Type 0} (items : X → List Entry) (sour
 entries_refused items source names fault (Ok x) is other named =
     record { named = named; fit = λ n e at. fits_refused source fault e is other }
 entries_refused items source names fault (Err e) is other named = tt
+
+one_of_more : (es : List Entry) (e : Entry) (n : ℕ) (d : Entry) → slice_get (es ++ e ∷ []) n ≡ Some d → (slice_get es n ≡ Some d) ⊎ (e ≡ d)
+one_of_more [] e zero d at = inr cc
+one_of_more [] e (suc n) d at = cc
+one_of_more (x ∷ es) e zero d at = inl at
+one_of_more (x ∷ es) e (suc n) d at = one_of_more es e n d at
+
+-- what holds of each entry, and of one more, holds of all
+pub all_more : (P : Entry → Type 0) (es : List Entry) (e : Entry) → ((n : ℕ) (d : Entry) → slice_get es n ≡ Some d → P d) → P e → (n : ℕ) (d : Entry) → slice_get (es ++ e ∷ []) n ≡ Some d → P d
+all_more P es e all one n d at = ⊎_elim (λ h. all n d h) (λ h. subst P h one) (one_of_more es e n d at)

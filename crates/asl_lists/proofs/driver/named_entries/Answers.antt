@@ -3,7 +3,7 @@ use Rattle.std.proofs.lemmas.Grind.{common_steps}
 use Rattle.asl_syntax.specs.View.{item_of}
 use Rattle.asl_syntax.specs.Rules.{parameter_counts, differs}
 use Rattle.asl_lists.specs.declared.driver.Entry.{Entry}
-use Rattle.asl_explain.proofs.Ends.{all_more}
+use Rattle.asl_lists.proofs.Entries.{all_more}
 use Rattle.asl_lists.proofs.driver.named_entries.Goals as goal
 
 pub loop-name-preserved : goal.loop-name-preserved
