@@ -45,7 +45,7 @@ typedef struct {
 typedef struct {
   aslr_holding held;
   _Alignas(64) pthread_mutex_t guard; /* for all that follows, and what is held */
-  atomic_bool busy;                   /* whether somebody has the guard: for those who spin */
+  atomic_bool busy;                   /* whether somebody has the guard: a hint for those who spin, on which nothing but time rests */
   uint32_t waiter_count;
   forest_thread *first, *last;        /* the queue */
   uint64_t turns;                     /* how often somebody began to wait */

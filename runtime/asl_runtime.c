@@ -81,7 +81,7 @@ static uint32_t read_lists(aslr_runtime *made, const aslr_program *program) {
 
 /* Memory for an object, aligned to 16 bytes, since what is asked for is a multiple of 16; NULL where there is none. An address needs 8
  * alone: its last bits, which aslr_object_of leaves out, say what a value is. By 16, what stands before the cells is in one line of the
- * cache. */
+ * cache. Nothing is freed before the runtime is closed. */
 static void *allocate(mine *self, size_t bytes) {
   if (!self->free_at || (size_t)(self->free_end - self->free_at) < bytes) {
     block *made = aligned_alloc(64, BLOCK);

@@ -1,5 +1,5 @@
 /* Each status of each function of the C library, once at least; which comes first where several apply; and memory refused at each
- * request in turn. Link it with --wrap=malloc and --wrap=realloc. */
+ * request in turn. Link it with --wrap=malloc and --wrap=realloc. Run by tests/c. */
 #include "asl.h"
 #include "refuse.h"
 #include <stdio.h>

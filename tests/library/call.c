@@ -1,5 +1,6 @@
 /* One command by the C library, as the program would do it: the words are the arguments, input is standard input, and the output,
- * the errors and the status are the program's. usage: call WORD.. < INPUT */
+ * the errors and the status are the program's. usage: call WORD.. < INPUT
+ * Run by tests/three-ways and tests/release. */
 #include "asl.h"
 #include <stdio.h>
 #include <stdlib.h>

@@ -1,5 +1,5 @@
 /* asl_call: each status of its own, buffers of each length round the output's, NULL with length 0, and memory refused at each request
- * in turn. usage: commands SOURCE. Link it with --wrap=malloc and --wrap=realloc. */
+ * in turn. usage: commands SOURCE. Link it with --wrap=malloc and --wrap=realloc. Run by tests/call. */
 #include "asl.h"
 #include "refuse.h"
 #include <stdio.h>

@@ -1,7 +1,7 @@
 /* asl_call over words and inputs that are damaged at random. Each buffer has just the size that is told, so a sanitizer sees a byte past
  * it. Each answer must have the form that asl.h says, be the same with other room, and with memory refused at one request be that
  * answer or lack of memory.
- * usage: fuzz MILLISECONDS SEED FILE..      Link it with --wrap=malloc and --wrap=realloc. */
+ * usage: fuzz MILLISECONDS SEED FILE..      Link it with --wrap=malloc and --wrap=realloc. Run by tests/by-hand/fuzz-library. */
 #include "asl.h"
 #include "refuse.h"
 #include <stdio.h>

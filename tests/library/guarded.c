@@ -6,6 +6,7 @@
  * lists over registers, objects and cells at random against an evaluation of its own, and takes what they ask for in a queue. Each status is
  * that of the header's order; what is refused has written nothing; readers and evaluations ask for no memory; all memory comes back.
  *
+ * Run by tests/by-hand/fuzz-library.
  * usage: guarded MILLISECONDS SEED FILE..      (round n from 0 on has the seed SEED + n, so `guarded 0 SEED + n FILE..` makes it again) */
 #include "asl.h"
 #include "guarded.h"

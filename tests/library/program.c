@@ -1,6 +1,7 @@
 /* Programs as data: opens a program with memory refused at each request in turn, and prints all that can be read of it, a line an entry.
  * Then each refusal: NULL, a handle that is closed or has a program, numbers that are none, bytes that are damaged or cut.
- * usage: program FILE [K] ; FILE is an image or a text, or with K a source; link it with --wrap=malloc and --wrap=realloc. */
+ * usage: program FILE [K] ; FILE is an image or a text, or with K a source; link it with --wrap=malloc and --wrap=realloc.
+ * Run by tests/programs. */
 #include "asl.h"
 #include "refuse.h"
 #include <stdio.h>

@@ -1,6 +1,6 @@
 /* Random calls on a queue against a model of it, which keeps a plain list of who waits: each status, who is named, what is held and
  * covered must be the model's. First each status once, and memory refused at each request in turn.
- * usage: queue MILLISECONDS SEED. Link it with --wrap=malloc and --wrap=realloc. */
+ * usage: queue MILLISECONDS SEED. Link it with --wrap=malloc and --wrap=realloc. Run by tests/c and tests/by-hand/fuzz-library. */
 #include "asl.h"
 #include "refuse.h"
 #include <stdio.h>

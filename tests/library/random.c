@@ -1,5 +1,5 @@
 /* Random calls on a forest against a model of it: each status, what is held afterwards and what is covered must be the model's.
- * usage: random MILLISECONDS SEED. Link it with --wrap=malloc and --wrap=realloc. */
+ * usage: random MILLISECONDS SEED. Link it with --wrap=malloc and --wrap=realloc. Run by tests/c and tests/by-hand/fuzz-library. */
 #include "asl.h"
 #include "refuse.h"
 #include <stdio.h>

@@ -2,7 +2,7 @@
  * outermost `acq`, over the registers and the objects that the session tells, and compares the request with `asl_session_asks`. It tells a
  * cell only when it is asked for it. Objects get other numbers than the session's, and the registers of each frame are told in an array of just
  * their length. Then each refusal: NULL, a handle that is closed, a list that there is not, too little room; and words at random.
- * usage: request IMAGE THREADS SEED STEPS ; link it with --wrap=malloc and --wrap=realloc. */
+ * usage: request IMAGE THREADS SEED STEPS ; link it with --wrap=malloc and --wrap=realloc. Run by tests/programs. */
 #include "asl.h"
 #include "refuse.h"
 #include <stdio.h>

@@ -1,7 +1,7 @@
 /* Sessions: steps a program by a schedule with memory refused at each request in turn, and prints for each position what
  * `asl debug goto K view asks stack objects` prints, and then the lines of the events, as `asl log` does. It writes the run file into
  * FILE, and into HALF that of the first half of the events.
- * usage: session PROGRAM FILE HALF THREADS T.. ; link it with --wrap=malloc and --wrap=realloc. */
+ * usage: session PROGRAM FILE HALF THREADS T.. ; link it with --wrap=malloc and --wrap=realloc. Run by tests/sessions. */
 #include "asl.h"
 #include "refuse.h"
 #include <stdio.h>

@@ -1,6 +1,7 @@
 /* A session that is stepped, gone through to and fro, and cut at random: what it shows after each move is what a new session shows
  * that is only stepped. Most moves go back by one event, so that they begin at the copies that the ones before left.
  *
+ * Run by tests/sessions.
  * usage: walks THREADS MOVES SEED <PROGRAM      the number of positions that were compared, and of events where most were there */
 #include "asl.h"
 #include <stdio.h>

@@ -1,7 +1,7 @@
 /* What may go wrong around sections, under both engines: cells outside of objects; threads that are opened again, too many of them, cancelled
  * while they wait, and given up in sections; crowds that wait; runtimes that are closed as soon as they may be; signals; a process that was forked;
  * who fails where nobody has set where to go on; lists as long as they may be; and a heap whose objects change their shape while lists are
- * evaluated. */
+ * evaluated. Run by tests/runtime. */
 #define _POSIX_C_SOURCE 200809L
 #ifdef __linux__
 #define _GNU_SOURCE /* for sched_setaffinity */

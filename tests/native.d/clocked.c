@@ -4,6 +4,7 @@
  * then; they fail and give up in sections in each other, read and replace what globals point to, and ask whether cells are covered.
  * Who asks has the guard: its order is that of the first mutex that a thread takes as it enters. Link it as refusing.h says, with
  * --wrap=pthread_mutex_lock,--wrap=pthread_mutex_trylock besides.
+ * Run by tests/runtime.
  * usage: clocked forest|words THREADS TURNS SEED AT_ONCE */
 #define _POSIX_C_SOURCE 200809L
 #include "asl_runtime.h"

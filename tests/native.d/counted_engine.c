@@ -1,5 +1,5 @@
 /* The engine `forest`, which counts in `comparisons` how often it compares two modes. Link it with --wrap=aslr_forest_engine: then it is taken in
- * place of the other. */
+ * place of the other. Linked by tests/runtime. */
 #define _POSIX_C_SOURCE 200809L
 #define aslr_forest_engine __wrap_aslr_forest_engine
 #include "inside.h"

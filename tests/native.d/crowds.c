@@ -1,5 +1,6 @@
 /* So many threads in sections at once that what they hold moves to the other structure, and back (runtime/asl_holding.h): each covers its own cell all
- * the time and no other; memory refused at each request of the move; who waits goes on after both moves. Link it as refusing.h says. */
+ * the time and no other; memory refused at each request of the move; who waits goes on after both moves. Link it as refusing.h says.
+ * Run by tests/runtime. */
 #define _POSIX_C_SOURCE 200809L
 #include "asl_runtime.h"
 #include "refusing.h"

@@ -1,6 +1,7 @@
 /* In the place of asl_main.c: runs a program many times, and prints each outcome that came, after a line that says how often: what each thread put
  * out and how it ended, and the heap that the globals reach, all without the numbers of objects. Before accesses that are asked for (`asl c
  * --check`) threads pause by chance, so that others come between. Status 1 where something other than a fault ended a thread.
+ * Run by tests/parallel.
  * usage: PROGRAM forest|words THREADS RUNS SEED AT_ONCE */
 #define _POSIX_C_SOURCE 200809L
 #include "inside.h"

@@ -11,6 +11,7 @@
  *   - who was let on does not sleep, and one who has not ended can go on; when all have, nobody waits or holds, and nothing is tallied.
  * Link it as refusing.h says, with --wrap=pthread_cond_wait,--wrap=pthread_cond_signal,--wrap=aslr_forest_engine besides: the engine is in here.
  * AddressSanitizer warns of other stacks, and finds nothing; ThreadSanitizer does not know them, and there is one thread anyway.
+ * Run by tests/runtime.
  * usage: modelled SEED THREADS AT_ONCE TURNS GLOBALS mixed|cells [refuses] */
 #define _XOPEN_SOURCE 700
 #define aslr_forest_engine __wrap_aslr_forest_engine

@@ -3,7 +3,7 @@
  * paths stand; of those who stand behind the same one, who came first comes in first; and who gives back compares few requests for each of them,
  * and none twice. And who waits for a writer that is kept out comes in once that one is in, where the two do not clash.
  * Nothing here rests on time: who is sent is in its section, or sleeps before it, when the next step is made, and afterwards it is asked who was in
- * before whom. Link it with counted_engine.c and --wrap=pthread_cond_wait,--wrap=aslr_forest_engine. */
+ * before whom. Link it with counted_engine.c and --wrap=pthread_cond_wait,--wrap=aslr_forest_engine. Run by tests/runtime. */
 #define _POSIX_C_SOURCE 200809L
 #include "asl_runtime.h"
 #include <pthread.h>

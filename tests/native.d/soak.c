@@ -1,6 +1,7 @@
 /* Many threads for a long time: they come and go, more of them than have numbers, and fail in sections. Accounts are objects that globals point to;
  * sections transfer, read, replace an account by a new object, put accounts into other globals, and look at them all. Each access asks whether it is
  * covered or fresh; the sum is looked at by sections and at the end of each second, when all threads end and another runtime begins.
+ * Run by tests/runtime and tests/release.
  * usage: soak forest|words SECONDS SEED THREADS AT_ONCE */
 #define _POSIX_C_SOURCE 200809L
 #include "asl_runtime.h"

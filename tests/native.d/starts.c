@@ -6,7 +6,8 @@
  *                                   or 40 where more was not asked for once, or a thread has not 16 MB in the end
  *        starts addresses N WORD..  there are N MB of addresses (ulimit -v): the status of the program, or 40 where the stacks are not a quarter of
  *                                   that, and not 16 MB each where that is more
- *        starts memory N WORD..     memory is refused after N requests, or never where N is -1: the status of the program */
+ *        starts memory N WORD..     memory is refused after N requests, or never where N is -1: the status of the program
+ * Run by tests/runtime. */
 #define _POSIX_C_SOURCE 200809L
 #include "asl_runtime.h"
 #include "refusing.h"

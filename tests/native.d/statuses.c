@@ -1,5 +1,5 @@
 /* Each status of each function of the runtime, under both engines; memory refused at each request in turn; who waits for whom, and who goes on
- * first. Link it as refusing.h says. */
+ * first. Link it as refusing.h says. Run by tests/runtime. */
 #define _POSIX_C_SOURCE 200809L
 #include "asl_runtime.h"
 #include "refusing.h"

@@ -1,4 +1,5 @@
-//! Ways over steps that first reasons show, as searches go. No answer rests on these: what they find is looked at again.
+//! Ways over steps that first reasons show, as searches go. No promise rests on these: what they find is looked at again (`picked` of
+//! `following.rt`). Where they miss a way, `straight_chain` gives another chain, and `tests/classes` shows that.
 
 use crate::following::Shown;
 use crate::place::Place;

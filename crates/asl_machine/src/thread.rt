@@ -130,7 +130,7 @@ impl Thread {
         try_local_instruction(code, heap, activity)
     }
 
-    /// Steps thread t.
+    /// Steps thread t. The reply is `Ended` where it has ended before, and then nothing changes.
     pub fn step(
         &mut self,
         alloc: Global,

@@ -9,6 +9,7 @@ import { MEANING } from '../modes.js';
 import { waitAt } from '../stretches.js';
 
 const MOST_COLUMNS = 16;
+// How a mode is filled, as a class of the style; its colour is that of the thread.
 const look = mode => (mode === 'X' || mode === 'SIX' ? 'x' : mode === 'S' ? 's' : 'i');
 
 export function drawLocks(bench) {

@@ -120,7 +120,7 @@ impl Teller<'_> {
         self.push_own(text, first, last)
     }
 
-    /// Adds the end of a row of lists, and whether the analysis has one of their lengths.
+    /// Adds the end of a row of lists: `(this list)` where the analysis has one of their lengths.
     fn push_own(&self, text: &mut String, first: usize, last: usize) -> Result<(), AllocError>
         ensures { OnOk result (string_bytes text.new ≡ string_bytes text.old ++ own_words (given self.now).k_limit first last) }
     {
