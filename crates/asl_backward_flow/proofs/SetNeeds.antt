@@ -73,6 +73,7 @@ needs_at (set ∷ sets) first q n i e =
     (λ o. let r = needs_at sets (first + 1) q n o.0 o.1 in let is = r.1 in (suc r.0, omega (arith, is), r.2))
     (at_either (map (λ j. (first, j)) (members_of set)) (needs_from (first + 1) sets) (q, n) i e)
 
+-- each number of a set is needed at the set's pc
 pub at_needs : (sets : List (List Bool)) (first k n q : ℕ) → q ≡ first + k → IsIn (list_at sets k) n → IsAt (needs_from first sets) (q, n)
 at_needs [] first k n q is h = absurd (nothing n h)
   where

@@ -22,6 +22,7 @@ module _ (image : Image) (log : Log) (j : IsJournal image log.threads log.events
   pub is_before : (k : ℕ) (s : State) → IsStateAt image log k s → s ≡ state_before image log k
   is_before k s leads = end_is image log.threads (take k log.events) s leads
 
+  -- where the computed state before an event may want memory, the state of the journal there may
   pub wants_of : (k : ℕ) → MayWantMemoryBefore image log k → MayWantMemoryAt image log k
   wants_of k h =
       elim (slice_get log.events k) as (λ o. slice_get log.events k ≡ o → IsSomeAnd o (λ (e : Event). MayWantMemory image (state_before image log k) e.thread) → MayWantMemoryAt image log k) [

@@ -125,7 +125,7 @@ fn declaring_hint(name: &[u8]) -> &'static str {
     }
 }
 
-/// Where only `;` is missing.
+/// Where only `;`, a semicolon, is missing.
 fn line_end_hint(line: Line<'_>, token: Token<'_>) -> &'static str {
     match (line, token) {
         (

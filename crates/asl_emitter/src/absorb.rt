@@ -158,7 +158,7 @@ fn has_class(given: &[Lock], class: u16, effect: Effect) -> bool
 }
 
 /// Whether a list in order has a stronger lock on the same expression than the one at a place, which has this effect. It would be
-/// the next.
+/// the next. So of a cell that is read and written only the write lock stays.
 fn is_before_stronger(given: &[Lock], at: usize, expr: &Expr, effect: Effect) -> bool
     requires order { AreInOrder given.now }
     requires there { at < length given.now }

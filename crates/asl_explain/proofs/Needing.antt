@@ -27,6 +27,7 @@ chains_more x r from lock old new c is all one =
 pub needs_more : (x : Read) (section : ℕ) (s : Section) (old new : List Need) (d : Need) → new ≡ old ++ d ∷ [] → AreNeeds x section s old → IsNeed x section s d → AreNeeds x section s new
 needs_more x section s old new d is all one = subst (AreNeeds x section s) (sym is) (all_more (IsNeed x section s) old d all one)
 
+-- the locks of needs to which one is added are the first locks, one more of them
 pub ones_more : (old new : List Need) (d : Need) → new ≡ old ++ d ∷ [] → (locks : List Lock) (i : ℕ) (e : Lock) → i < length locks → d.lock ≡ get_or locks i e → ((n : Lock) → IsOneOf old n ↔ IsOne (take i locks) n)
     → (n : Lock) → IsOneOf new n ↔ IsOne (take (i + 1) locks) n
 ones_more old new d is locks i e lt same before n = (

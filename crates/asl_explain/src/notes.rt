@@ -10,7 +10,8 @@ use asl_lock_words::cell_words;
 use std::alloc::AllocError;
 use std::fmt::Write;
 
-/// Why the lock of a step is needed where that of the step before is.
+/// Why the lock of a step is needed where that of the step before is. Where there is nothing to say it is empty, and then the line may
+/// have `round the loop` (`note_or_round` of text/chains.rt).
 pub fn note_of(teller: &Teller<'_>, earlier: &Step, step: &Step) -> Result<String, AllocError> {
     let alloc = teller.alloc;
     let Some(instr) = teller.analysis.lowering.code().get(usize::from(step.pc)) else {

@@ -27,6 +27,7 @@ pub fn get(alloc: Global, bytes: &[u8]) -> Result<Journal, JournalFault>
     whole_of(alloc, bytes)
 }
 
+/// The journal that is all the bytes: `Truncated` where they end before the last event that is counted, `Trailing` where more follow it.
 #[tactic(auto, unfolding(crate::specs::JournalFields::whole_of))]
 fn whole_of(alloc: Global, bytes: &[u8]) -> Result<Journal, JournalFault>
     ensures { ((result ≡ Err JournalFault.OutOfMemory) × ((log : Log) × (whole_of bytes.now ≡ Ok log)))

@@ -30,7 +30,7 @@ pub(crate) fn own_name(options: &Options, function: u16) -> Option<&str>
     }
 }
 
-/// Adds the C name of a function.
+/// Adds the C name of a function: its own, else `aslr_f` and its number.
 pub(crate) fn put_callee<G: Growth>(
     growth: G,
     text: &mut Vec<u8>,

@@ -1,4 +1,5 @@
-//! Exports that report on a session and do not change it.
+//! Exports that report on a session and do not change it. C holds the session's box in parts, so each takes it out of the handle, which
+//! is empty meanwhile, and puts it back.
 ghost use Rattle.std.specs.Prelude.{◌≡◌, ◌≢◌, ◌↔◌, true, false, length, if◌then◌else◌};
 ghost use Rattle.asl_c_sessions.specs.Pages.{log_text};
 ghost use Rattle.asl_c_sessions.specs.Status.{IsPageTold, IsRunFileTold, IsTold};

@@ -141,7 +141,7 @@ fn entries_of(alloc: Global, source_map: &Map, names: &[String]) -> Result<Vec<E
     Ok(entries)
 }
 
-/// The name by which C calls the function of a name.
+/// The name by which C calls the function of a name: `aslr_entry_` and the name.
 fn c_name_of(alloc: Global, name: &str) -> Result<String, AllocError>
     ensures { IfOk result (λ text. string_bytes text ≡ c_entry name.now) }
 {
