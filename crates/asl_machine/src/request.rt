@@ -83,7 +83,8 @@ pub fn whole_request(
     regs: &[PackedValue],
     heap: &Heap,
 ) -> Result<Vec<(Node, Mode)>, AllocError>
-    ensures { IfOk result (λ asks. asks.items ≡ request_of heap.now regs.now locks.now) }
+    ensures request { IfOk result (λ asks. asks.items ≡ request_of heap.now regs.now locks.now) }
+    ensures asks { OnErr result (0 < length (request_of heap.now regs.now locks.now)) }
 {
     let mut asks = Vec::new(alloc);
     gather(&mut asks, locks, regs, heap)?;

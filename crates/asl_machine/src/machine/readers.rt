@@ -1,5 +1,5 @@
 //! Readers of a machine's threads: their frames, and what they ask for.
-ghost use Rattle.std.specs.Prelude.{◌≡◌, ◌<◌, IfOk, length, option_map, option_and_then, ◌≢◌, ◌≤◌, ◌↔◌, IfSome, IsTrue, false, Some, slice_get};
+ghost use Rattle.std.specs.Prelude.{◌≡◌, ◌<◌, IfOk, OnErr, length, option_map, option_and_then, ◌≢◌, ◌≤◌, ◌↔◌, IfSome, IsSomeAnd, IsTrue, false, Some, slice_get};
 ghost use Rattle.asl_machine.specs.Asked.{asked_of, request_at};
 ghost use Rattle.asl_machine.specs.Frames.{frame_at, frame_reg_at, place_of};
 ghost use Rattle.asl_machine.specs.Request.{locks_of};
@@ -65,10 +65,11 @@ impl<'p> Machine<'p> {
     ///
     /// # Errors
     ///
-    /// An allocation failed.
+    /// An allocation failed, and the request names a node.
     pub fn request(&self, alloc: Global, t: u32) -> Result<Option<Vec<(Node, Mode)>>, AllocError>
         requires { t < length self.now.state.threads }
-        ensures { IfOk result (λ request. option_map (λ asks. asks.items) request ≡ request_at self.now.image self.now.state t) }
+        ensures request { IfOk result (λ request. option_map (λ asks. asks.items) request ≡ request_at self.now.image self.now.state t) }
+        ensures memory { OnErr result (IsSomeAnd (request_at self.now.image self.now.state t) (λ asks. 0 < length asks)) }
     {
         match self.threads[t as usize].activity() {
             Some(activity) => asked(alloc, &self.code, &self.heap, activity),
@@ -180,14 +181,15 @@ impl<'p> Machine<'p> {
     }
 }
 
-/// What a running thread asks for, if it stands at an `acq` in no section.
+/// What a running thread asks for, if it stands at an `acq` in no section. Memory is wanted only where it asks for some node.
 fn asked(
     alloc: Global,
     code: &Code<'_>,
     heap: &Heap,
     activity: &Activity,
 ) -> Result<Option<Vec<(Node, Mode)>>, AllocError>
-    ensures { IfOk result (λ request. option_map (λ asks. asks.items) request ≡ asked_of code.now heap.now activity.now) }
+    ensures request { IfOk result (λ request. option_map (λ asks. asks.items) request ≡ asked_of code.now heap.now activity.now) }
+    ensures memory { OnErr result (IsSomeAnd (asked_of code.now heap.now activity.now) (λ asks. 0 < length asks)) }
 {
     if activity.depth() > 0 {
         return Ok(None);
