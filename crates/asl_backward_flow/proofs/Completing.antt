@@ -5,9 +5,8 @@ use Rattle.asl_code.specs.declared.instr.Instr.{Instr}
 use Rattle.asl_code.specs.declared.instr.Instr.TheVariants as instr
 use Rattle.asl_code.specs.declared.lock.Lock.{Lock}
 use Rattle.asl_lower.specs.OpenSections.{FlowsTo, start_of}
-use Rattle.asl_lower.specs.Regions.{Region, Body, Inside, IsIn}
+use Rattle.asl_lower.specs.Regions.{Region, Body, IsIn}
 use Rattle.asl_lock_expr.specs.Links.{IsOne, link, accesses, settle, renamed, dereferenced}
-use Rattle.asl_backward_flow.specs.declared.region.Region as code
 use Rattle.asl_backward_flow.specs.declared.region.Region.TheVariants as variant
 use Rattle.asl_backward_flow.specs.declared.found.AddFault.{AddFault}
 use Rattle.asl_backward_flow.specs.declared.found.AddFault.TheVariants.{OutOfMemory}
@@ -19,14 +18,6 @@ use Rattle.asl_backward_flow.specs.Follows.{Read, IsRead, IsReady, HasAll, seen,
 use Rattle.asl_backward_flow.proofs.Leasts.{needed_inside, needed_least}
 use Rattle.asl_backward_flow.proofs.Sound.{seed_needed}
 use Rattle.asl_backward_flow.proofs.Fronts.{fronts_more, seeds_fronted}
-
-abbrev number_of : Region → ℕ
-number_of (Body g) = g
-number_of (Inside n) = n
-
-body_named : (x : code.Region) (g : ℕ) → region_of x ≡ Body g → x ≡ variant.Body g
-body_named (variant.Body h) g e = ap variant.Body (ap number_of e)
-body_named (variant.Section n) g e = absurd cc
 
 module _ (r : Read) (read : IsRead r) (t : Table) (so : IsFollowed r t NoneWaits) where
   abbrev Is : Region → ℕ → Lock → Type 0
@@ -62,9 +53,9 @@ module _ (r : Read) (read : IsRead r) (t : Table) (so : IsFollowed r t NoneWaits
   found_entered region f pc to first g callee m passed n isin at in_table k renames o p s there e =
       let here = point region f pc p s isin there e in
       let inside = needed_inside r.lowered r.classes r.stores r.k_limit (Body g) (start_of r.lowered.functions g) m k.0 in
-      let body = read.spans.all (Body g) inside.0 (start_of r.lowered.functions g) inside.1 in
-      let named : body.1.region ≡ variant.Body g = body_named body.1.region g body.3 in
-      follow body.0 (start_of r.lowered.functions g) m p pc n (k.1 body.0 body.1 body.2 body.3)
+      let body = read.spans.bodies g inside.0 (start_of r.lowered.functions g) inside.1 in
+      let named : body.1.region ≡ variant.Body g = body.3 in
+      follow body.0 (start_of r.lowered.functions g) m p pc n (k.1 body.0 body.1 body.2 (ap region_of named))
       (inr (
         m,
         refl,

@@ -9,10 +9,11 @@ use Rattle.asl_lower.specs.Regions.{Region, Body, Inside, IsIn, Between}
 use Rattle.asl_lower.specs.LegalLowering.{IsLegalLowering}
 use Rattle.asl_lower.proofs.Reaching.{body_within}
 use Rattle.std.proofs.lemmas.Bool.{cases_lt}
+use Rattle.asl_backward_flow.specs.declared.region.Region as code
 use Rattle.asl_backward_flow.specs.declared.region.Region.TheVariants as variant
 use Rattle.asl_backward_flow.specs.declared.span.Span.{Span}
 use Rattle.asl_backward_flow.specs.Needed.{region_of}
-use Rattle.asl_backward_flow.specs.Spans.{IsSpan, AreOfRegions, HasSection, HasBody, AreInPlace, AreDistinct, AreSpans, AreSections, AreBodies}
+use Rattle.asl_backward_flow.specs.Spans.{IsSpan, AreOfRegions, HasSection, HasBody, AreInPlace, AreDistinct, AreSpans, AreClosed, AreSections, AreBodies}
 use Rattle.asl_backward_flow.proofs.Sets.{some_same, at_front, at_push, at_end, at_last}
 
 -- a section as its span, and its bounds
@@ -39,12 +40,25 @@ section_bounds l kept n d lt =
             (sym b.function ∙ ap (λ (s : Section). s.function) is, omega arith, ahead);
         inside = λ pc first end. record { is = there.section; in_table = there.in_table; function = refl; behind = omega arith; ahead = end };
         entry = λ g e. absurd cc;
+        section = λ m x e at. section_first n m there.section x (section_of n m e) there.in_table at;
         within = omega arith;
       };
       number = omega arith;
       acquire = there.before;
       release = omega arith;
     })
+  where
+    number_in : ℕ → variant.the_data → ℕ
+    number_in d (variant.Section m) = m
+    number_in d (variant.Body m) = d
+
+    section_of : (a b : ℕ) → variant.Section a ≡ variant.Section b → a ≡ b
+    section_of a b e = ap (number_in 0) e
+
+    section_first : (a b : ℕ) (x y : Section) → a ≡ b → slice_get l.sections a ≡ Some x → slice_get l.sections b ≡ Some y → x.acquire + 1 ≡ suc y.acquire
+    section_first a b x y e at_a at_b =
+        let same : x.acquire ≡ y.acquire = ap (λ (s : Section). s.acquire) (some_same (sym at_a ∙ ap (slice_get l.sections) e ∙ at_b)) in
+        omega (arith, same)
 
 pub section_of_list : (l : Lowered) → IsLegalLowering l → (sections : List Section) → sections ≡ l.sections → (n : ℕ) → n < length l.sections → (d : Section) → Bounds l n (get_or sections n d)
 section_of_list l kept sections same n lt d = subst (λ xs. Bounds l n (get_or xs n d)) (sym same) (section_bounds l kept n d lt)
@@ -71,12 +85,16 @@ body_bounds l kept g d lt =
             (b.0, body.start, end);
         inside = λ pc first end. (refl, inner, record { function = get_or l.functions g d; in_table = at; start = first; before_end = end });
         entry = λ h e. ap (start_of l.functions) (body_number g h e);
+        section = λ n x e at. absurd (no_section n e);
         within = within;
       };
       number = omega arith;
       end = omega arith;
     }
   where
+    no_section : (n : ℕ) → variant.Body g ≡ variant.Section n → ⊥
+    no_section n e = cc
+
     number_in : ℕ → variant.the_data → ℕ
     number_in d (variant.Body n) = n
     number_in d (variant.Section n) = d
@@ -129,6 +147,15 @@ distinct_more spans s so new j k a b at_j at_k e =
     (at_end spans s k b at_k))
     (at_end spans s j a at_j)
 
+abbrev number_of_region : Region → ℕ
+number_of_region (Body g) = g
+number_of_region (Inside n) = n
+
+-- what names the body of a function is that body
+pub body_named : (x : code.Region) (g : ℕ) → region_of x ≡ Body g → x ≡ variant.Body g
+body_named (variant.Body h) g e = ap variant.Body (ap number_of_region e)
+body_named (variant.Section n) g e = absurd cc
+
 -- the number of a body
 number_of_body : ℕ → variant.the_data → ℕ
 number_of_body d (variant.Body n) = n
@@ -167,6 +194,7 @@ bodies_begin l spans so = record {
   each = so.each;
   sections = so.all;
   all = λ g lt. absurd (omega arith);
+  many = omega (arith, so.count);
   few = omega (arith, so.count);
   placed = so.placed;
   distinct = sections_distinct l spans (length l.sections) so;
@@ -183,6 +211,7 @@ bodies_more l spans s i so is region = record {
       (λ h. body_still spans s g (so.all g h inner))
       (λ (h : g ≡ i). (length spans, s, at_last spans s, region ∙ ap variant.Body (sym h)))
       (below_or_at g i lt);
+  many = let many = so.many in omega (arith, many, length-append spans (s ∷ []));
   few = let few = so.few in omega (arith, length-append spans (s ∷ []));
   placed = body_placed spans s i so.placed region;
   distinct = distinct_more spans s so.distinct (λ k t at e. let lt = so.below k i t at (e ∙ region) in omega (arith, lt));
@@ -197,6 +226,7 @@ bodies_skip l spans i so not = record {
   each = so.each;
   sections = so.sections;
   all = λ g lt inner. ⊎_elim (λ h. so.all g h inner) (λ (h : g ≡ i). absurd (not (subst (IsInner l) h inner))) (below_or_at g i lt);
+  many = so.many;
   few = let few = so.few in omega arith;
   placed = so.placed;
   distinct = so.distinct;
@@ -209,6 +239,8 @@ all_spans l kept spans so =
     record {
       each = so.each;
       all = λ r f pc. go r f pc;
+      sections = so.sections;
+      many = so.many;
       few = let few = so.few in let s = layout.limits.few_sections in let f = layout.limits.few_functions in omega arith;
       placed = so.placed;
       distinct = so.distinct;
@@ -228,6 +260,14 @@ all_spans l kept spans so =
     go (Inside n) f pc (b) =
         let h = so.sections n (slice_get_within l.sections n (between_is n f pc b) (between_at n f pc b)) in
         (h.0, h.1, h.2, ap region_of h.3)
+
+-- the spans of all regions have those of all bodies
+pub all_closed : (l : Lowered) (spans : List Span) → AreSpans l spans → AreClosed l spans
+all_closed l spans so = record {
+  each = so.each;
+  bodies = λ g f pc b. let h = so.all (Body g) f pc b in (h.0, h.1, h.2, body_named h.1.region g h.3);
+  few = so.few;
+}
 
 -- a mark that is read stands in the list
 pub marked_at : (marks : List Bool) (n : ℕ) → get_or marks n false ≡ true → slice_get marks n ≡ Some true

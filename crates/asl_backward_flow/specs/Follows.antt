@@ -19,7 +19,7 @@ use Rattle.asl_backward_flow.specs.declared.found.AddFault.{AddFault}
 use Rattle.asl_backward_flow.specs.Found.{Table, HasPoint, Has, HasFact, IsAt, IsName, IsWhole, IsOver, IsNamed, Adds, Lists, locks_of}
 use Rattle.asl_backward_flow.specs.Graph.{HasPc, HasRows, HasCall, IsEdge, IsJump, IsCall}
 use Rattle.asl_backward_flow.specs.Needed.{Needed, region_of}
-use Rattle.asl_backward_flow.specs.Spans.{AreSpans}
+use Rattle.asl_backward_flow.specs.Spans.{AreClosed}
 
 -- a program with where its regions lie and the ways into its points
 pub record Read : Type 0 where
@@ -49,7 +49,7 @@ read p = record {
 pub record IsRead (r : Read) : Type 0 where
   pub short : r.k_limit ≤ 8
   pub kept : IsLegalLowering r.lowered
-  pub spans : AreSpans r.lowered r.spans
+  pub spans : AreClosed r.lowered r.spans
   pub jumps : HasRows r.jumps (IsJump r.lowered) (length r.lowered.code)
   pub calls : HasRows r.calls (IsCall r.lowered) (length r.lowered.code)
   pub regions : HasRows r.regions (HasCall r.lowered r.spans) (length r.spans)

@@ -3,6 +3,7 @@ ghost use Rattle.std.specs.Prelude.{◌≤◌, IfOk, IfErr};
 ghost use Rattle.asl_backward_flow.specs.Flows.{IsFlow, IsRefusedFlow};
 ghost use Rattle.asl_backward_flow.specs.Found.{table, Table};
 ghost use Rattle.asl_backward_flow.specs.Follows.{read, IsRead, IsAll, Overflows};
+ghost use Rattle.asl_backward_flow.specs.Spans.{AreSpans};
 ghost use Rattle.asl_backward_flow.specs.Parts.{TellsAll, HasMany};
 
 use crate::access_needs::add_seeds;
@@ -54,7 +55,8 @@ pub fn needed(
 
 /// The flow of a program whose regions and graph are at hand.
 fn flow(alloc: Global, analysis: &FlowAnalysis) -> Result<Flow, FlowFault>
-    requires { IsRead (read analysis.now) }
+    requires analysis { IsRead (read analysis.now) }
+    requires whole { AreSpans analysis.now.lowering.now analysis.now.spans.now }
     ensures ok { IfOk result (TellsAll (read analysis.now)) }
     ensures err { IfErr result (HasMany (read analysis.now)) }
 {
@@ -65,7 +67,7 @@ fn flow(alloc: Global, analysis: &FlowAnalysis) -> Result<Flow, FlowFault>
 }
 
 /// The fault, with the region in place of its number.
-fn named(analysis: &FlowAnalysis, fault: AddFault) -> FlowFault
+pub fn named(analysis: &FlowAnalysis, fault: AddFault) -> FlowFault
     requires { (t : Table) × Overflows (read analysis.now) t fault }
     ensures { HasMany (read analysis.now) result }
 {
@@ -78,7 +80,7 @@ fn named(analysis: &FlowAnalysis, fault: AddFault) -> FlowFault
 }
 
 /// What accesses need, and all that follows from it.
-fn find(alloc: Global, analysis: &FlowAnalysis) -> Result<Found, AddFault>
+pub fn find(alloc: Global, analysis: &FlowAnalysis) -> Result<Found, AddFault>
     requires { IsRead (read analysis.now) }
     ensures ok { IfOk result (λ found. IsAll (read analysis.now) (table found)) }
     ensures err { IfErr result (λ fault. (t : Table) × Overflows (read analysis.now) t fault) }

@@ -1,7 +1,7 @@
 //! Where the regions lie in the code.
 ghost use Rattle.std.specs.Prelude.{◌≡◌, ◌<◌, ◌≤◌, ◌↔◌, IsTrue, [], length, IfOk, OnOk};
 ghost use Rattle.asl_lower.specs.OpenSections.{IsInner};
-ghost use Rattle.asl_backward_flow.specs.Spans.{IsSpan, AreSpans, AreSections};
+ghost use Rattle.asl_backward_flow.specs.Spans.{IsSpan, AreSpans, AreClosed, AreSections};
 
 use crate::region::Region;
 use asl_lower::Lowering;
@@ -27,7 +27,8 @@ impl Span {
 
 /// Where each region lies: the sections, and the bodies of inner functions.
 pub fn spans(alloc: Global, lowering: &Lowering) -> Result<Vec<Span>, AllocError>
-    ensures { IfOk result (λ spans. AreSpans lowering.now spans.items) }
+    ensures all { IfOk result (λ spans. AreSpans lowering.now spans.items) }
+    ensures closed { IfOk result (λ spans. AreClosed lowering.now spans.items) }
 {
     let mut spans = Vec::new(alloc);
     add_sections(lowering, &mut spans)?;
@@ -49,7 +50,8 @@ fn add_sections(lowering: &Lowering, spans: &mut Vec<Span>) -> Result<(), AllocE
 /// After them the spans of those function bodies that run inside a section.
 fn add_bodies(lowering: &Lowering, spans: &mut Vec<Span>) -> Result<(), AllocError>
     requires { AreSections lowering.now spans.old.items (length lowering.now.sections) }
-    ensures { OnOk result (AreSpans lowering.now spans.new.items) }
+    ensures all { OnOk result (AreSpans lowering.now spans.new.items) }
+    ensures closed { OnOk result (AreClosed lowering.now spans.new.items) }
 {
     let inner = lowering.inner();
     for number in 0..lowering.functions().len() {

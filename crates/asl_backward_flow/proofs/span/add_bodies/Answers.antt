@@ -1,6 +1,6 @@
 use Rattle.std.proofs.Common.{Vec, Global, List, ◌+◌, ◌∙◌, length, ap, sym, subst, arith}
 use Rattle.asl_backward_flow.specs.Spans.{AreBodies}
-use Rattle.asl_backward_flow.proofs.SpanLaws.{bodies_begin, bodies_more, bodies_skip, all_spans, marked_at, not_marked}
+use Rattle.asl_backward_flow.proofs.SpanLaws.{bodies_begin, bodies_more, bodies_skip, all_spans, all_closed, marked_at, not_marked}
 use Rattle.asl_backward_flow.proofs.span.add_bodies.Goals.{then-inner-number+in_ok-push, else-inner-number}
 use Rattle.asl_backward_flow.proofs.span.add_bodies.Goals as goal
 
@@ -33,9 +33,12 @@ loop-number-preserved c =
           (λ inner. not_marked c.inner-inner.result c.loop-number.number w.if-inner-number.false ((c.inner-inner.ensures c.loop-number.number).1 inner)))
     ]
 
-pub returns : goal.returns
-returns c =
+pub returns-clause-all : goal.returns-clause-all
+returns-clause-all c =
     let end = c.loop-number-test.false in
     let same = ap length c.functions-number-end.ensures.functions in
     all_spans c.args.lowering.now c.functions-number-end.ensures.kept c.loop-number.spans.items
     (subst (AreBodies c.args.lowering.now c.loop-number.spans.items) (let at = c.loop-number.auto.number-end in omega arith) c.loop-number.invariant)
+
+pub returns-clause-closed : goal.returns-clause-closed
+returns-clause-closed c = all_closed c.args.lowering.now c.loop-number.spans.items (returns-clause-all c)
