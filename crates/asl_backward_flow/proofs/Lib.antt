@@ -39,6 +39,7 @@ pub mod Leasts
 -- what is found is told, and what is needed by the definition
 mod SetNeeds
 mod Tellings
+mod Grouping
 pub mod Basing
 pub mod Ending
 pub mod Alike

@@ -36,7 +36,8 @@ apart_pairs locks apart i j d lt below e =
     let same : i ≡ j = apart i j (get_or locks i d) at_i (at_j ∙ ap Some (sym e)) in
     omega (arith, same, lt)
 
-abbrev NeededIn : Read → Region → ℕ → Lock → Type 0
+-- the region needs the lock at the pc
+abbrev pub NeededIn : Read → Region → ℕ → Lock → Type 0
 NeededIn r region q m = Needed r.lowered r.classes r.stores r.k_limit region q m
 
 -- what was found for the regions of some spans, part by part

@@ -11,3 +11,4 @@ pub mod Follows
 pub mod Masked
 pub mod Entering
 pub mod Parts
+pub mod Grouped

@@ -55,6 +55,7 @@ pub record AreClosed (l : Lowered) (spans : List Span) : Type 0 where
 -- of the spans of all regions those of so many sections from one on, and then those of all bodies
 pub record IsGroup (l : Lowered) (spans : List Span) (first count : ℕ) (group : List Span) : Type 0 where
   pub closed : AreClosed l group
+  pub many : count ≤ length group
   pub sections : (k : ℕ) → k < count → slice_get group k ≡ slice_get spans (first + k)
 
 -- the spans of the sections below a number

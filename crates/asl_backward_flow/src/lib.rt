@@ -4,6 +4,7 @@
 mod access_needs;
 mod call_needs;
 mod entered;
+mod entry_flow;
 mod fault;
 mod flow;
 mod flow_analysis;
@@ -11,6 +12,7 @@ mod following;
 mod found;
 mod fresh;
 mod graph;
+mod group;
 mod laws;
 mod masks;
 mod needs_step;
@@ -21,6 +23,7 @@ mod solve;
 mod span;
 mod waiting;
 
+pub use entry_flow::needed_at_entries;
 pub use fault::FlowFault;
 pub use flow::Flow;
 pub use laws::{
