@@ -11,7 +11,7 @@ use Rattle.asl_points_to.specs.Classes.{Classed, AreClasses}
 use Rattle.asl_points_to.specs.Refused.{IsRefusedClasses as HasNoClasses}
 use Rattle.asl_points_to.specs.declared.fault.ClassesFault.{ClassesFault}
 use Rattle.asl_points_to.specs.declared.fault.ClassesFault.TheVariants as classes
-use Rattle.asl_backward_flow.specs.Flows.{IsFlow, IsRefusedFlow as HasNoFlow}
+use Rattle.asl_backward_flow.specs.Flows.{IsEntryFlow, IsRefusedFlow as HasNoFlow}
 use Rattle.asl_backward_flow.specs.Needed.{RegionNeeds}
 use Rattle.asl_backward_flow.specs.declared.fault.FlowFault.{FlowFault}
 use Rattle.asl_backward_flow.specs.declared.fault.FlowFault.TheVariants as flow
@@ -43,7 +43,7 @@ flow_refused is k_limit l c (flow.TooManyLocks region) lowered lowers are few h 
 }
 flow_refused is k_limit l c flow.OutOfMemory lowered lowers are few h = lowered
 
-pub is_accepted : (is : List Item) (k_limit : ℕ) (l : Lowered) (c : Classed) (parts : List RegionNeeds) → IsLowered is → IsLowering is l → AreClasses l c → c.count ≤ 1024 → IsFlow l c k_limit parts → IsAccepted is k_limit
+pub is_accepted : (is : List Item) (k_limit : ℕ) (l : Lowered) (c : Classed) (parts : List RegionNeeds) → IsLowered is → IsLowering is l → AreClasses l c → c.count ≤ 1024 → IsEntryFlow l c k_limit parts → IsAccepted is k_limit
 is_accepted is k_limit l c parts lowered lowers are few f = record {
   lowered = lowered;
   analysis = record { program = record { lowering = l; lowers = lowers; classes = c; are_classes = are }; stores = f.stores; tells = f.written };

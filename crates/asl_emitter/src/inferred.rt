@@ -3,7 +3,7 @@ ghost use Rattle.std.specs.Prelude.{◌≤◌, ℕ, IfOk, IfErr, OnOk};
 ghost use Rattle.asl_syntax.specs.AstView.{tree_of};
 ghost use Rattle.asl_lower.specs.LegalLowering.{IsLegalLowering};
 ghost use Rattle.asl_points_to.specs.Classes.{AreClasses};
-ghost use Rattle.asl_backward_flow.specs.Flows.{IsFlow};
+ghost use Rattle.asl_backward_flow.specs.Flows.{IsEntryFlow};
 ghost use Rattle.asl_soundness.specs.Safe.{NeverFaultsForLocks};
 ghost use Rattle.asl_atomicity.specs.Serial.{HasSerialRuns};
 ghost use Rattle.asl_atomicity.specs.Renamed.{HasSerialRunsUpTo};
@@ -13,7 +13,7 @@ ghost use Rattle.asl_emitter.specs.BuiltImage.{IsMade};
 
 use crate::fault::InferFault;
 use crate::inferred_image::{code, copied, lists};
-use asl_backward_flow::{Flow, needed};
+use asl_backward_flow::{Flow, needed_at_entries};
 use asl_code::{Image, NEWEST, Program};
 use asl_lower::{Lowering, lower};
 use asl_points_to::{Classes, classes};
@@ -40,7 +40,7 @@ pub fn infer(alloc: Global, ast: &Ast<'_>, k: u32) -> Result<Program, InferFault
 {
     let lowering = lower(alloc, ast)?;
     let classes = classes(alloc, &lowering)?;
-    let flow = needed(alloc, &lowering, &classes, k)?;
+    let flow = needed_at_entries(alloc, &lowering, &classes, k)?;
     Ok(program(alloc, &lowering, &classes, &flow, k)?)
 }
 
@@ -54,7 +54,7 @@ fn program(
 ) -> Result<Program, AllocError>
     requires classes { AreClasses lowering.now classes.now }
     requires few { classes.now.count ≤ 1024 }
-    requires flow { IsFlow lowering.now classes.now k flow.now }
+    requires flow { IsEntryFlow lowering.now classes.now k flow.now }
     ensures made { IfOk result (IsMade lowering.now classes.now flow.now) }
     ensures sound { IfOk result NeverFaultsForLocks }
     ensures atomic { IfOk result (λ program. (count : ℕ) → HasSerialRuns program count) }
