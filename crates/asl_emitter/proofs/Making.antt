@@ -4,25 +4,43 @@ use Rattle.asl_code.specs.declared.image.Image.{Image}
 use Rattle.asl_code.specs.declared.lock.Lock.{Lock}
 use Rattle.asl_lower.specs.declared.section.Section.{Section}
 use Rattle.asl_lower.specs.Lowered.{Lowered}
-use Rattle.asl_lower.specs.Regions.{Inside}
+use Rattle.asl_lower.specs.Regions.{Region, Inside}
 use Rattle.asl_points_to.specs.Classes.{Classed}
 use Rattle.asl_lock_expr.specs.Links.{IsOne}
-use Rattle.asl_backward_flow.specs.Needed.{RegionNeeds, Needed, IsTold}
-use Rattle.asl_backward_flow.specs.Flows.{TellsEntries}
+use Rattle.asl_backward_flow.specs.Needed.{RegionNeeds, Needed, IsTold, TellsNeeded}
+use Rattle.asl_backward_flow.specs.Flows.{IsFlow, IsEntryFlow, TellsEntries}
 use Rattle.asl_emitter.specs.Lists.{IsFitted}
 use Rattle.asl_emitter.specs.Inferred.{IsInferred}
 use Rattle.asl_emitter.specs.BuiltImage.{AreFitted, IsMade}
 use Rattle.asl_emitter.proofs.Fits.{fitted_same}
 
 -- what is told of the place after an `acq` is what is needed there
-pub told_needed : (l : Lowered) (c : Classed) (stores : ℕ → ℕ → Bool) (k_limit : ℕ) (parts : List RegionNeeds) → TellsEntries l c stores k_limit parts → (n : ℕ) (s : Section) → slice_get l.sections n ≡ Some s → (a : Lock)
+pub told_needed : (l : Lowered) (c : Classed) (stores : ℕ → ℕ → Bool) (k_limit : ℕ) (parts : List RegionNeeds) → TellsNeeded l c stores k_limit parts → (r : Region) (pc : ℕ) (a : Lock) → IsTold parts r (pc + 1) a ↔ Needed l c stores k_limit r (suc pc) a
+told_needed l c stores k_limit parts tells r pc a =
+    let same : pc + 1 ≡ suc pc = omega arith in
+    subst (λ q. IsTold parts r (pc + 1) a ↔ Needed l c stores k_limit r q a) same (tells r (pc + 1) a)
+
+-- the same where only first points of sections are told
+told_at_entry : (l : Lowered) (c : Classed) (stores : ℕ → ℕ → Bool) (k_limit : ℕ) (parts : List RegionNeeds) → TellsEntries l c stores k_limit parts → (n : ℕ) (s : Section) → slice_get l.sections n ≡ Some s → (a : Lock)
     → IsTold parts (Inside n) (s.acquire + 1) a ↔ Needed l c stores k_limit (Inside n) (suc s.acquire) a
-told_needed l c stores k_limit parts tells n s there a =
+told_at_entry l c stores k_limit parts tells n s there a =
     let same : suc s.acquire ≡ s.acquire + 1 = omega arith in
     subst (λ q. IsTold parts (Inside n) q a ↔ Needed l c stores k_limit (Inside n) (suc s.acquire) a) same (tells n s a there)
 
-pub made_inferred : (l : Lowered) (c : Classed) (stores : ℕ → ℕ → Bool) (k_limit : ℕ) (parts : List RegionNeeds) (image : Image) → TellsEntries l c stores k_limit parts → IsMade l c parts image → IsInferred l c stores k_limit image
-made_inferred l c stores k_limit parts image tells m = record {
+-- who tells of each point tells of first points
+entries_told : (l : Lowered) (c : Classed) (stores : ℕ → ℕ → Bool) (k_limit : ℕ) (parts : List RegionNeeds) → TellsNeeded l c stores k_limit parts → TellsEntries l c stores k_limit parts
+entries_told l c stores k_limit parts tells n s a there = tells (Inside n) (suc s.acquire) a
+
+pub entry_flow : (l : Lowered) (c : Classed) (k_limit : ℕ) (parts : List RegionNeeds) → IsFlow l c k_limit parts → IsEntryFlow l c k_limit parts
+entry_flow l c k_limit parts f = record {
+  stores = f.stores;
+  written = f.written;
+  tells = entries_told l c f.stores k_limit parts f.tells;
+  few = f.few;
+}
+
+pub made_at_entries : (l : Lowered) (c : Classed) (stores : ℕ → ℕ → Bool) (k_limit : ℕ) (parts : List RegionNeeds) (image : Image) → TellsEntries l c stores k_limit parts → IsMade l c parts image → IsInferred l c stores k_limit image
+made_at_entries l c stores k_limit parts image tells m = record {
   version = m.version;
   classes = m.classes;
   globals = m.globals;
@@ -32,8 +50,11 @@ made_inferred l c stores k_limit parts image tells m = record {
   count = m.lists.count;
   lists = λ n s locks there at.
       fitted_same c s.function 256 (IsTold parts (Inside n) (s.acquire + 1)) (Needed l c stores k_limit (Inside n) (suc s.acquire)) locks
-      (λ a. told_needed l c stores k_limit parts tells n s there a) (m.lists.each n s locks there at);
+      (λ a. told_at_entry l c stores k_limit parts tells n s there a) (m.lists.each n s locks there at);
 }
+
+pub made_inferred : (l : Lowered) (c : Classed) (stores : ℕ → ℕ → Bool) (k_limit : ℕ) (parts : List RegionNeeds) (image : Image) → TellsNeeded l c stores k_limit parts → IsMade l c parts image → IsInferred l c stores k_limit image
+made_inferred l c stores k_limit parts image tells m = made_at_entries l c stores k_limit parts image (entries_told l c stores k_limit parts tells) m
 
 get_more : {X : Type 0} (xs : List X) (y : X) (n : ℕ) (x : X) → slice_get (xs ++ y ∷ []) n ≡ Some x → (slice_get xs n ≡ Some x) ⊎ ((n ≡ length xs) × (y ≡ x))
 get_more [] y zero x e = inr (refl, cc)

@@ -11,12 +11,13 @@ use Rattle.asl_points_to.specs.Classes.{Classed, AreClasses}
 use Rattle.asl_points_to.specs.Refused.{IsRefusedClasses as HasNoClasses}
 use Rattle.asl_points_to.specs.declared.fault.ClassesFault.{ClassesFault}
 use Rattle.asl_points_to.specs.declared.fault.ClassesFault.TheVariants as classes
-use Rattle.asl_backward_flow.specs.Flows.{IsEntryFlow, IsRefusedFlow as HasNoFlow}
+use Rattle.asl_backward_flow.specs.Flows.{IsFlow, IsEntryFlow, IsRefusedFlow as HasNoFlow}
 use Rattle.asl_backward_flow.specs.Needed.{RegionNeeds}
 use Rattle.asl_backward_flow.specs.declared.fault.FlowFault.{FlowFault}
 use Rattle.asl_backward_flow.specs.declared.fault.FlowFault.TheVariants as flow
 use Rattle.asl_emitter.specs.Refused.{IsLowered, IsAccepted, IsRefusedInference}
 use Rattle.asl_emitter.specs.Faults.{of_lower, of_classes, of_flow}
+use Rattle.asl_emitter.proofs.Making.{entry_flow}
 
 pub is_lowered : (is : List Item) (l : Lowered) → IsLowering is l → HasRoom is → ((function pc : ℕ) → ¬ IsBareAccess l function pc) → IsLowered is
 is_lowered is l lowers room inside = record {
@@ -43,10 +44,13 @@ flow_refused is k_limit l c (flow.TooManyLocks region) lowered lowers are few h 
 }
 flow_refused is k_limit l c flow.OutOfMemory lowered lowers are few h = lowered
 
-pub is_accepted : (is : List Item) (k_limit : ℕ) (l : Lowered) (c : Classed) (parts : List RegionNeeds) → IsLowered is → IsLowering is l → AreClasses l c → c.count ≤ 1024 → IsEntryFlow l c k_limit parts → IsAccepted is k_limit
-is_accepted is k_limit l c parts lowered lowers are few f = record {
+pub is_accepted_at_entries : (is : List Item) (k_limit : ℕ) (l : Lowered) (c : Classed) (parts : List RegionNeeds) → IsLowered is → IsLowering is l → AreClasses l c → c.count ≤ 1024 → IsEntryFlow l c k_limit parts → IsAccepted is k_limit
+is_accepted_at_entries is k_limit l c parts lowered lowers are few f = record {
   lowered = lowered;
   analysis = record { program = record { lowering = l; lowers = lowers; classes = c; are_classes = are }; stores = f.stores; tells = f.written };
   few_classes = few;
   few_locks = f.few;
 }
+
+pub is_accepted : (is : List Item) (k_limit : ℕ) (l : Lowered) (c : Classed) (parts : List RegionNeeds) → IsLowered is → IsLowering is l → AreClasses l c → c.count ≤ 1024 → IsFlow l c k_limit parts → IsAccepted is k_limit
+is_accepted is k_limit l c parts lowered lowers are few f = is_accepted_at_entries is k_limit l c parts lowered lowers are few (entry_flow l c k_limit parts f)

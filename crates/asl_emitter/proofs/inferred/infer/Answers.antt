@@ -1,7 +1,7 @@
 use Rattle.std.proofs.lemmas.Result.{err_from_is_err_and}
 use Rattle.asl_syntax.specs.AstView.{tree_of}
-use Rattle.asl_emitter.proofs.Making.{made_inferred}
-use Rattle.asl_emitter.proofs.Refusing.{is_lowered, classes_refused, flow_refused, is_accepted}
+use Rattle.asl_emitter.proofs.Making.{made_at_entries}
+use Rattle.asl_emitter.proofs.Refusing.{is_lowered, classes_refused, flow_refused, is_accepted_at_entries}
 use Rattle.asl_emitter.proofs.inferred.infer.Goals as goal
 
 pub returns-clause-inferred : goal.returns-clause-inferred
@@ -15,13 +15,13 @@ returns-clause-inferred c =
         stores = f.stores;
         tells = f.written;
       };
-      inferred = made_inferred l k f.stores c.args.k c.in_ok-flow.flow c.in_ok-program.field-0 f.tells c.in_ok-program.ensures.made;
+      inferred = made_at_entries l k f.stores c.args.k c.in_ok-flow.flow c.in_ok-program.field-0 f.tells c.in_ok-program.ensures.made;
     }
 
 pub returns-clause-accepted : goal.returns-clause-accepted
 returns-clause-accepted c =
     let low = c.in_ok-lowering.ensures in
-    is_accepted (tree_of c.args.ast.now) c.args.k c.in_ok-lowering.lowering c.in_ok-classes.classes c.in_ok-flow.flow
+    is_accepted_at_entries (tree_of c.args.ast.now) c.args.k c.in_ok-lowering.lowering c.in_ok-classes.classes c.in_ok-flow.flow
     (is_lowered (tree_of c.args.ast.now) c.in_ok-lowering.lowering low.lowering low.room low.inside)
     low.lowering c.in_ok-classes.ensures.classes c.in_ok-classes.ensures.few c.in_ok-flow.ensures.flow
 

@@ -6,7 +6,7 @@ use Rattle.asl_atomicity.specs.Serial.{HasSerialRuns}
 use Rattle.asl_atomicity.specs.Renamed.{HasSerialRunsUpTo}
 use Rattle.asl_emitter.proofs.Guarding.{inferred_serial, inferred_serial_up_to}
 use Rattle.asl_soundness.specs.Safe.{NeverFaultsForLocks}
-use Rattle.asl_emitter.proofs.Making.{made_inferred}
+use Rattle.asl_emitter.proofs.Making.{made_at_entries}
 use Rattle.asl_emitter.proofs.Verifying.{inferred_fits}
 use Rattle.asl_emitter.proofs.Sounding.{inferred_sound}
 use Rattle.asl_emitter.proofs.inferred.program.Goals as goal
@@ -19,7 +19,7 @@ unreachable-requires c =
     let made = c.in_ok-image.ensures in
     let image = c.in_ok-image.image in
     let fault = c.in-Err._refused.0 in
-    let inferred = made_inferred l k flow.stores c.args.k c.args.flow.now image flow.tells made.made in
+    let inferred = made_at_entries l k flow.stores c.args.k c.args.flow.now image flow.tells made.made in
     let fits = inferred_fits l k flow.stores c.args.k image made.kept c.requires.classes c.requires.few inferred in
     let holds : applies image fault ≡ true = c.in-Err.ensures.fault.holds in
     let none : applies image fault ≡ false = verified_from_facts image fits fault in
@@ -32,7 +32,7 @@ returns-clause-sound c =
     let flow = c.requires.flow in
     let made = c.in_ok-image.ensures in
     let image = c.in_ok-image.image in
-    let inferred = made_inferred l k flow.stores c.args.k c.args.flow.now image flow.tells made.made in
+    let inferred = made_at_entries l k flow.stores c.args.k c.args.flow.now image flow.tells made.made in
     subst NeverFaultsForLocks (sym c.in-Ok.ensures.program) (inferred_sound l k flow.stores c.args.k image made.kept c.requires.classes c.requires.few flow.written inferred)
 
 pub returns-clause-atomic : goal.returns-clause-atomic
@@ -42,7 +42,7 @@ returns-clause-atomic c =
     let flow = c.requires.flow in
     let made = c.in_ok-image.ensures in
     let image = c.in_ok-image.image in
-    let inferred = made_inferred l k flow.stores c.args.k c.args.flow.now image flow.tells made.made in
+    let inferred = made_at_entries l k flow.stores c.args.k c.args.flow.now image flow.tells made.made in
     subst (λ (i : Image). (count : ℕ) → HasSerialRuns i count) (sym c.in-Ok.ensures.program) (inferred_serial l k flow.stores c.args.k image made.kept c.requires.classes c.requires.few flow.written inferred)
 
 pub returns-clause-atomic_up_to_numbers : goal.returns-clause-atomic_up_to_numbers
@@ -52,5 +52,5 @@ returns-clause-atomic_up_to_numbers c =
     let flow = c.requires.flow in
     let made = c.in_ok-image.ensures in
     let image = c.in_ok-image.image in
-    let inferred = made_inferred l k flow.stores c.args.k c.args.flow.now image flow.tells made.made in
+    let inferred = made_at_entries l k flow.stores c.args.k c.args.flow.now image flow.tells made.made in
     subst (λ (i : Image). (count : ℕ) → HasSerialRunsUpTo i count) (sym c.in-Ok.ensures.program) (inferred_serial_up_to l k flow.stores c.args.k image made.kept c.requires.classes c.requires.few flow.written inferred)
