@@ -1,5 +1,5 @@
 -- What the text of an explanation tells (docs/ANALYSIS.md, "Explanations").
-use Rattle.std.specs.Prelude.{◌≡◌, ◌≤◌, ◌-◌, ℕ, zero, suc, List, [], ◌∷◌, ◌++◌, Bool, true, false, not, ◌||◌, ◌==◌, if◌then◌else◌, nat_lt, Option, None, Some, unwrap_or, length, map, take, codes, slice_get}
+use Rattle.std.specs.Prelude.{◌≡◌, ◌≤◌, ◌+◌, ◌-◌, ℕ, zero, suc, List, [], ◌∷◌, ◌++◌, Bool, true, false, not, ◌||◌, ◌&&◌, ◌==◌, if◌then◌else◌, nat_lt, Option, None, Some, unwrap_or, length, map, take, drop, codes, slice_get}
 use Rattle.std.specs.Fmt.{decimal}
 use Rattle.std.specs.List.{filter, flat_map, list_any}
 use Rattle.std.specs.Ordering.{is_eq}
@@ -194,9 +194,22 @@ abbrev pub step_before : List Step → ℕ → Option Step
 step_before steps zero = None
 step_before steps (suc n) = slice_get steps n
 
--- the lines of a chain, one for each step
-abbrev pub chain_lines : Facts → List Step → List Part
-chain_lines f steps = numbered (λ n s. line_of f (step_before steps n) s) 0 steps
+-- the lines of some steps of a chain, of which the first has this number in it
+abbrev pub lines_from : Facts → List Step → ℕ → List Step → List Part
+lines_from f steps first some = numbered (λ n s. line_of f (step_before steps (first + n)) s) 0 some
+
+-- so many steps of a chain have no line of their own
+abbrev pub left_line : ℕ → List ℕ
+left_line count = codes "      .. and " ++ (decimal count ++ codes " more steps (--all shows them)\n")
+
+-- the lines of both ends of a chain: the first and the last 16
+abbrev pub ends_lines : Facts → List Step → List Part
+ends_lines f steps =
+    lines_from f steps 0 (take 16 steps) ++ Words (left_line (length steps - 32)) ∷ lines_from f steps (length steps - 16) (drop (length steps - 16) steps)
+
+-- the lines of a chain: one for each step, or, where it has more than 40 and not everything is told, those of both its ends
+abbrev pub chain_lines : Bool → Facts → List Step → List Part
+chain_lines all f steps = if not all && nat_lt 40 (length steps) then ends_lines f steps else lines_from f steps 0 steps
 
 -- ---- the chains under a lock
 
@@ -237,12 +250,13 @@ abbrev pub between_words : ℕ → List ℕ
 between_words n = if nat_lt 0 n then codes "\n" else []
 
 -- the lines of a chain that is told, behind an empty line where it is not the first
-abbrev pub under_lines : Facts → ℕ → Lock → ℕ → ChainUnder → List Part
-under_lines f function lock n u = Words (between_words n) ∷ (chain_lines f u.chain.steps ++ Words (container_line f function (is_own lock u.need) lock) ∷ [])
+abbrev pub under_lines : Bool → Facts → ℕ → Lock → ℕ → ChainUnder → List Part
+under_lines all f function lock n u =
+    Words (between_words n) ∷ (chain_lines all f u.chain.steps ++ Words (container_line f function (is_own lock u.need) lock) ∷ [])
 
 -- the lines of all chains that are told of a lock of a list
 abbrev pub told_chains : Given → ℕ → Listed → List Part
-told_chains g function d = numbered (under_lines g.facts function d.lock) 0 (told_of g.all (chains_under d))
+told_chains g function d = numbered (under_lines g.all g.facts function d.lock) 0 (told_of g.all (chains_under d))
 
 -- ---- the locks of a list
 
@@ -302,9 +316,9 @@ abbrev pub new_line : Facts → ℕ → List ℕ
 new_line f pc = place_columns f pc ++ (padded 8 (codes "ends") ++ codes "the object is new here: no lock\n")
 
 -- the chain of a lock that ends, and the line of the `new`, if they are told
-abbrev pub ending_lines : Facts → Option Ending → List Part
-ending_lines f None = []
-ending_lines f (Some e) = chain_lines f e.chain.steps ++ Words (new_line f e.pc) ∷ []
+abbrev pub ending_lines : Bool → Facts → Option Ending → List Part
+ending_lines all f None = []
+ending_lines all f (Some e) = chain_lines all f e.chain.steps ++ Words (new_line f e.pc) ∷ []
 
 -- the line of a lock of a function that ends at a `new`
 abbrev pub ended_line : Facts → ℕ → Lock → List ℕ
@@ -312,8 +326,8 @@ ended_line f function lock =
     codes "\n  no lock for " ++ (words_in f function lock ++ (codes "   (" ++ (made_words f.map function lock ++ codes " is new)\n")))
 
 -- a lock of a function that ends at a `new`
-abbrev pub ended_lines : Facts → ℕ → Ended → List Part
-ended_lines f function e = Words (ended_line f function e.lock) ∷ ending_lines f e.ending
+abbrev pub ended_lines : Bool → Facts → ℕ → Ended → List Part
+ended_lines all f function e = Words (ended_line f function e.lock) ∷ ending_lines all f e.ending
 
 -- ---- sections
 
@@ -349,7 +363,7 @@ abbrev pub section_told : Given → ℕ → List Listed → List Ended → List 
 section_told g section listed ended =
     Words (between_words section) ∷ (head_told g section (length listed)
     ++ (flat_map (lock_told g section) listed
-    ++ (flat_map (ended_lines g.facts (section_in g.facts section).function) ended ++ Words (codes "\n") ∷ Table g section ∷ [])))
+    ++ (flat_map (ended_lines g.all g.facts (section_in g.facts section).function) ended ++ Words (codes "\n") ∷ Table g section ∷ [])))
 
 -- so of each section, from this number on
 abbrev pub sections_told : Given → ℕ → List (List Listed) → List (List Ended) → List Part

@@ -28,6 +28,12 @@ pub(crate) const MAX_NAMED: usize = 8;
 /// Of how many locks under another the statements are named where not all are to be.
 const MAX_CONTAINED: usize = 6;
 
+/// The most steps that a chain may have to be told whole where not all are to be.
+const MAX_STEPS: usize = 40;
+
+/// How many steps are told at each end of a longer one.
+const AT_END: usize = 16;
+
 /// What stands in place of the line and the statement of an instruction.
 const NO_PLACE: &str = "                                       ";
 
@@ -161,7 +167,7 @@ impl Teller<'_> {
         function: u16,
         ended: &[Ended],
     ) -> Result<(), AllocError>
-        ensures { OnOk result (Tells (flat_map (ended_lines (given self.now).facts function) ended.now) (string_bytes text.old) (string_bytes text.new)) }
+        ensures { OnOk result (Tells (flat_map (ended_lines (given self.now).all (given self.now).facts function) ended.now) (string_bytes text.old) (string_bytes text.new)) }
     {
         for end in ended {
             self.push_end(text, function, end)?;
@@ -171,7 +177,7 @@ impl Teller<'_> {
 
     /// Adds a lock that ends at a `new` of a section of the function.
     fn push_end(&self, text: &mut String, function: u16, end: &Ended) -> Result<(), AllocError>
-        ensures { OnOk result (Tells (ended_lines (given self.now).facts function end.now) (string_bytes text.old) (string_bytes text.new)) }
+        ensures { OnOk result (Tells (ended_lines (given self.now).all (given self.now).facts function end.now) (string_bytes text.old) (string_bytes text.new)) }
     {
         self.push_end_line(text, function, &end.lock)?;
         self.push_ending(text, end)?;
@@ -189,7 +195,7 @@ impl Teller<'_> {
 
     /// Adds the chain of a lock that ends at a `new`, if it is told.
     fn push_ending(&self, text: &mut String, end: &Ended) -> Result<(), AllocError>
-        ensures { OnOk result (Tells (ending_lines (given self.now).facts end.now.ending) (string_bytes text.old) (string_bytes text.new)) }
+        ensures { OnOk result (Tells (ending_lines (given self.now).all (given self.now).facts end.now.ending) (string_bytes text.old) (string_bytes text.new)) }
     {
         match &end.ending {
             Some(ending) => self.push_told_ending(text, ending),
@@ -199,7 +205,7 @@ impl Teller<'_> {
 
     /// Adds a chain that ends at a `new`, and the line of the `new`.
     fn push_told_ending(&self, text: &mut String, ending: &Ending) -> Result<(), AllocError>
-        ensures { OnOk result (Tells (ending_lines (given self.now).facts (Some ending.now)) (string_bytes text.old) (string_bytes text.new)) }
+        ensures { OnOk result (Tells (ending_lines (given self.now).all (given self.now).facts (Some ending.now)) (string_bytes text.old) (string_bytes text.new)) }
     {
         self.push_chain(text, &ending.chain)?;
         self.push_new(text, ending.pc)?;

@@ -1,16 +1,18 @@
 //! The lines of the chains under a lock.
-ghost use Rattle.std.specs.Prelude.{◌≡◌, ◌∷◌, [], ◌++◌, None, IfOk, OnOk, codes, string_bytes};
+ghost use Rattle.std.specs.Prelude.{◌≡◌, ◌<◌, ◌≤◌, ◌+◌, ◌∷◌, [], ◌++◌, None, IfOk, OnOk, codes, length, string_bytes};
 ghost use Rattle.std.specs.List.{filter};
 ghost use Rattle.std.specs.Option.{option_copied};
 ghost use Rattle.asl_lock_expr.specs.Order.{lock_cmp};
-ghost use Rattle.asl_explain.specs.Told.{Words, Note, step_words, is_register, is_argument, widens, verb_of, place_by, first_line, behind_line, line_of, step_before, chain_lines, is_own, own_first, chains_of, chains_under, container_line, under_lines, told_chains, told_of, others_told};
+ghost use Rattle.asl_explain.specs.Told.{Words, Note, step_words, is_register, is_argument, widens, verb_of, place_by, first_line, behind_line, line_of, step_before, lines_from, left_line, ends_lines, chain_lines, is_own, own_first, chains_of, chains_under, container_line, under_lines, told_chains, told_of, others_told};
 ghost use Rattle.asl_explain.specs.Telling.{Tells, given};
 ghost use Rattle.asl_explain.specs.TellingChains.{is_chosen, needs_of, under_now, under_of};
 
 use crate::explained_value::{Chain, Listed, Need, Step, Why};
 use crate::notes::note_of;
 use crate::search::Statements;
-use crate::text::{MAX_CONTAINED, NO_PLACE, Teller, plural, push_between, push_note};
+use crate::text::{
+    AT_END, MAX_CONTAINED, MAX_STEPS, NO_PLACE, Teller, plural, push_between, push_note,
+};
 use asl_class_text::push_padded;
 use asl_code::{Base, Lock};
 use std::alloc::{AllocError, Global};
@@ -50,6 +52,13 @@ pub(crate) fn push_left(text: &mut String, left: usize) -> Result<(), AllocError
         text,
         "      contains {left} more lock{s} (--all shows them)\n"
     )
+}
+
+/// Adds how many steps of a chain are not told.
+fn push_left_steps(text: &mut String, left: usize) -> Result<(), AllocError>
+    ensures { OnOk result (string_bytes text.new ≡ string_bytes text.old ++ left_line left) }
+{
+    write!(text, "      .. and {left} more steps (--all shows them)\n")
 }
 
 /// A need with its number among those under a lock of a list.
@@ -242,7 +251,7 @@ impl Teller<'_> {
         number: usize,
         under: &Under<'_>,
     ) -> Result<(), AllocError>
-        ensures { OnOk result (Tells (under_lines (given self.now).facts function lock.now number (under_now under.now)) (string_bytes text.old) (string_bytes text.new)) }
+        ensures { OnOk result (Tells (under_lines (given self.now).all (given self.now).facts function lock.now number (under_now under.now)) (string_bytes text.old) (string_bytes text.new)) }
     {
         push_between(text, number)?;
         self.push_chain(text, under.chain)?;
@@ -331,12 +340,44 @@ impl Teller<'_> {
         text.push_str("\n")
     }
 
-    /// Adds the lines of a chain.
+    /// Adds the lines of a chain: of a long one those of both ends, unless all is told.
     pub(crate) fn push_chain(&self, text: &mut String, chain: &Chain) -> Result<(), AllocError>
-        ensures { OnOk result (Tells (chain_lines (given self.now).facts chain.now.steps) (string_bytes text.old) (string_bytes text.new)) }
+        ensures { OnOk result (Tells (chain_lines (given self.now).all (given self.now).facts chain.now.steps) (string_bytes text.old) (string_bytes text.new)) }
     {
         let steps = chain.steps.as_slice();
-        for (number, step) in steps.iter().enumerate() {
+        if !self.all && steps.len() > MAX_STEPS {
+            return self.push_ends(text, steps);
+        }
+        self.push_steps(text, steps, 0, steps)
+    }
+
+    /// Adds the lines of both ends of a chain, and between them how many steps are left.
+    fn push_ends(&self, text: &mut String, steps: &[Step]) -> Result<(), AllocError>
+        requires { 40 < length steps.now }
+        ensures { OnOk result (Tells (ends_lines (given self.now).facts steps.now) (string_bytes text.old) (string_bytes text.new)) }
+    {
+        let last = steps.len() - AT_END;
+        let front = &steps[..AT_END];
+        let back = &steps[last..];
+        self.push_steps(text, steps, 0, front)?;
+        push_left_steps(text, last - AT_END)?;
+        self.push_steps(text, steps, last, back)?;
+        Ok(())
+    }
+
+    /// Adds the lines of some steps of a chain, of which the first has this number in it.
+    fn push_steps(
+        &self,
+        text: &mut String,
+        steps: &[Step],
+        first: usize,
+        some: &[Step],
+    ) -> Result<(), AllocError>
+        requires { first + length some.now ≤ length steps.now }
+        ensures { OnOk result (Tells (lines_from (given self.now).facts steps.now first some.now) (string_bytes text.old) (string_bytes text.new)) }
+    {
+        for (behind, step) in some.iter().enumerate() {
+            let number = first + behind;
             let parameter = steps.get(number.wrapping_sub(2));
             self.push_step(text, parameter, step_before(steps, number), step)?;
         }

@@ -1,8 +1,0 @@
-use Rattle.std.proofs.Common.{string_bytes}
-use Rattle.asl_explain.specs.Told.{line_of, step_before}
-use Rattle.asl_explain.specs.Telling.{given}
-use Rattle.asl_explain.proofs.Piecing.{TellsSome}
-use Rattle.asl_explain.proofs.text.Teller.push_chain.Given as goal
-
-abbrev pub invariant-loop-number : goal.invariant-loop-number
-invariant-loop-number l = TellsSome (λ n s. line_of (given l.self).facts (step_before l.steps n) s) l.steps l.number (string_bytes l.initial.text) (string_bytes l.text)
