@@ -24,6 +24,7 @@ mod SpanLaws
 mod Points
 mod Waits
 mod Taking
+mod Turning
 mod Nexts
 mod Befores
 -- what locks become over an instruction, at calls and at entries

@@ -11,7 +11,7 @@ use Rattle.asl_backward_flow.proofs.SetNeeds.{at_either, at_right}
 nowhere : (f : ℕ × ℕ) (n : ℕ) → slice_get {X = ℕ × ℕ} [] n ≡ Some f → ⊥
 nowhere f n e = cc
 
-at_left : (f : ℕ × ℕ) (xs ys : List (ℕ × ℕ)) → IsAt xs f → IsAt (xs ++ ys) f
+pub at_left : (f : ℕ × ℕ) (xs ys : List (ℕ × ℕ)) → IsAt xs f → IsAt (xs ++ ys) f
 at_left f [] ys h = absurd (nowhere f h.0 h.1)
 at_left f (x ∷ xs) ys (zero, e) = (zero, e)
 at_left f (x ∷ xs) ys (suc n, e) = let l = at_left f xs ys (n, e) in (suc l.0, l.1)

@@ -6,8 +6,8 @@ ghost use Rattle.asl_lock_expr.specs.Links.{IsOne};
 ghost use Rattle.asl_backward_flow.specs.Found.{table, locks_of, IsBlank, Has, HasPoint, HasFact, IsNamed, IsWhole, IsOver, Adds, Lists, IsNext, HasNumbers};
 
 use crate::region_needs::{RegionNeeds, add_number, mark_fresh, merge_fresh, number};
+use crate::rounds::Rounds;
 use crate::span::Span;
-use crate::waiting::Waiting;
 use asl_code::Lock;
 use asl_lane_sets::Bits;
 use std::alloc::{AllocError, Global};
@@ -20,7 +20,7 @@ const MAX_LOCKS: usize = 4096;
 #[derive(Drop)]
 pub struct Found {
     pub parts: Vec<RegionNeeds>,
-    pub list: Waiting,
+    pub list: Rounds,
 }
 
 /// Why a fact was not added.
@@ -54,7 +54,7 @@ impl Found {
         }
         Ok(Found {
             parts,
-            list: Waiting::new(alloc),
+            list: Rounds::new(alloc),
         })
     }
 

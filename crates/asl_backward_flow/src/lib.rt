@@ -18,6 +18,7 @@ mod masks;
 mod needs_step;
 mod region;
 mod region_needs;
+mod rounds;
 mod scratch;
 mod solve;
 mod span;
