@@ -14,5 +14,6 @@ mod Walking
 mod Reasons
 mod Lengthening
 mod Short
+pub mod Opening
 pub mod FirstSection
 pub mod ToldClasses

@@ -7,6 +7,7 @@ pub mod Analysed
 pub mod Endings
 pub mod Gaps
 pub mod Lengths
+pub mod Opened
 pub mod Telling
 pub mod TellingChains
 pub mod TellingLists

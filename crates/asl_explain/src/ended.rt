@@ -112,7 +112,7 @@ fn ended_at(alloc: Global, analysis: &ExplainAnalysis, at: Place) -> Result<Vec<
 }
 
 /// The locks that a section needs after a `new` of it that sets the register on which they begin, each once, in order.
-fn ended_locks(
+pub(crate) fn ended_locks(
     alloc: Global,
     analysis: &ExplainAnalysis,
     number: u16,

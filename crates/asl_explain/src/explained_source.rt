@@ -24,7 +24,11 @@ use asl_warnings::warnings_text;
 use std::alloc::{AllocError, Global};
 
 /// What is known of a source.
-fn analysis_of(alloc: Global, source: &[u8], k: u32) -> Result<ExplainAnalysis, ExplainFault>
+pub(crate) fn analysis_of(
+    alloc: Global,
+    source: &[u8],
+    k: u32,
+) -> Result<ExplainAnalysis, ExplainFault>
     requires { k ≤ 8 }
     ensures analysed { IfOk result (IsOfSource source.now k) }
     ensures refused { IfErr result (IsRefusedExplanation source.now k) }
