@@ -16,7 +16,7 @@ use Rattle.asl_emitter.specs.BuiltImage.{AreFitted}
 use Rattle.asl_explain.specs.declared.explain_analysis.ExplainAnalysis.{ExplainAnalysis}
 use Rattle.asl_explain.specs.declared.explained_value.Lists.{Lists}
 use Rattle.asl_explain.specs.declared.explained_value.Lists.TheVariants.{Inferred}
-use Rattle.asl_explain.specs.Chains.{Needs}
+use Rattle.asl_explain.specs.Chains.{Read, Needs}
 use Rattle.asl_explain.specs.Analysed.{read, IsAnalysed, AreFittedAt, AreEachFitted}
 use Rattle.asl_explain.specs.Lengths.{IsBelow, AreBelow, IsRegionBelow, AreSectionsBelow, AreBodiesBelow, AreNeedsBelow}
 use Rattle.asl_explain.proofs.Ends.{get_more}
@@ -33,6 +33,15 @@ region_below parts limit r apart place p at is below pc lock told =
 -- the regions below a number and one more
 pub below_more : {P : ℕ → Type 0} (k : ℕ) → ((n : ℕ) → n < k → P n) → P k → (n : ℕ) → n < k + 1 → P n
 below_more {P} k all one n lt = ⊎_elim (λ (same : n ≡ k). subst P (sym same) one) (λ (less : n < k). all n less) (eq-or-lt_of_le (omega (arith, lt)))
+
+-- paths of fewer operations than so many have fewer than more
+below_greater : (limit greater : ℕ) (m : Lock) → limit ≤ greater → IsBelow limit m → IsBelow greater m
+below_greater limit greater (lock.Root effect) le below = tt
+below_greater limit greater (lock.Class x effect) le below = tt
+below_greater limit greater (lock.Expr e effect) le below = omega (arith, le, below)
+
+pub needs_below_greater : (x : Read) (limit greater : ℕ) → limit ≤ greater → AreNeedsBelow x limit → AreNeedsBelow x greater
+needs_below_greater x limit greater le all r pc m needed = below_greater limit greater m le (all r pc m needed)
 
 -- all that is needed is in a section or in the body of a function
 pub needs_below : (a : ExplainAnalysis) (limit : ℕ) → IsAnalysed a → AreSectionsBelow a.flow limit (length a.lowering.sections) → AreBodiesBelow a.flow limit (length a.lowering.functions) → AreNeedsBelow (read a) limit

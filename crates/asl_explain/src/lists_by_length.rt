@@ -1,5 +1,5 @@
 //! The lists of a program for each length of paths.
-ghost use Rattle.std.specs.Prelude.{◌≡◌, ◌≤◌, ◌+◌, IfOk, OnOk, IsTrue, length};
+ghost use Rattle.std.specs.Prelude.{◌≡◌, ◌≤◌, ◌+◌, IfOk, IfSome, OnOk, IsTrue, length};
 ghost use Rattle.asl_lower.specs.Lowered.{Lowered};
 ghost use Rattle.asl_points_to.specs.Classes.{Classed};
 ghost use Rattle.asl_emitter.specs.BuiltImage.{AreFitted};
@@ -9,7 +9,7 @@ ghost use Rattle.asl_explain.specs.Lengths.{AreNeedsBelow};
 use crate::explain_analysis::ExplainAnalysis;
 use crate::explained_value::Lists;
 use crate::links::copied;
-use crate::short_paths::{are_needs_below, is_settled};
+use crate::short_paths::{is_settled, needed_limit};
 use asl_backward_flow::{FlowFault, needed};
 use asl_code::{Items, Lock};
 use asl_emitter::lists;
@@ -55,14 +55,16 @@ struct AtLength {
 }
 
 /// Whether all that is needed has shorter paths than it may have, and none of more operations than so many: then it is the same with
-/// paths of at most so many.
-fn is_same(analysis: &ExplainAnalysis, k_limit: u32) -> bool
-    requires analysed { IsAnalysed analysis.now }
+/// paths of at most so many. All that is needed has paths of fewer operations than the limit, if one is known.
+fn is_same(analysis: &ExplainAnalysis, limit: Option<usize>, k_limit: u32) -> bool
+    requires below { IfSome limit (AreNeedsBelow (read analysis.now)) }
     requires short { k_limit ≤ 8 }
     ensures { IsTrue result → AreNeedsBelow (read analysis.now) analysis.now.k_limit × AreNeedsBelow (read analysis.now) (k_limit + 1) }
 {
-    are_needs_below(analysis, analysis.k_limit as usize)
-        && are_needs_below(analysis, k_limit as usize + 1)
+    match limit {
+        Some(limit) => limit <= analysis.k_limit as usize && limit <= k_limit as usize + 1,
+        None => false,
+    }
 }
 
 /// The lists with paths of at most so many operations: these, which are those of the analysis, where all that is needed is the same.
@@ -70,15 +72,17 @@ fn lists_at(
     alloc: Global,
     analysis: &ExplainAnalysis,
     own: &[Items<Lock>],
+    limit: Option<usize>,
     k_limit: u32,
 ) -> Result<AtLength, AllocError>
     requires analysed { IsAnalysed analysis.now }
+    requires below { IfSome limit (AreNeedsBelow (read analysis.now)) }
     requires own { AreFitted analysis.now.lowering analysis.now.classes analysis.now.flow (length analysis.now.lowering.sections) own.now }
     requires short { k_limit ≤ 8 }
     ensures lists { IfOk result (λ at. AreFittedAt analysis.now.lowering analysis.now.classes k_limit at.lists) }
     ensures longer { IfOk result (λ at. IsTrue at.is_last → AreFittedFrom analysis.now.lowering analysis.now.classes k_limit at.lists) }
 {
-    if is_same(analysis, k_limit) {
+    if is_same(analysis, limit, k_limit) {
         return Ok(AtLength {
             lists: Lists::Inferred(same_lists(alloc, own)?),
             is_last: false,
@@ -141,11 +145,13 @@ fn add_lists(
     alloc: Global,
     analysis: &ExplainAnalysis,
     own: &[Items<Lock>],
+    limit: Option<usize>,
     first: u32,
     last: u32,
     by_length: &mut Vec<Lists>,
 ) -> Result<(), AllocError>
     requires analysed { IsAnalysed analysis.now }
+    requires below { IfSome limit (AreNeedsBelow (read analysis.now)) }
     requires own { AreFitted analysis.now.lowering analysis.now.classes analysis.now.flow (length analysis.now.lowering.sections) own.now }
     requires order { first ≤ last }
     requires short { last ≤ 9 }
@@ -155,7 +161,7 @@ fn add_lists(
     ensures each { OnOk result (AreEachFitted analysis.now.lowering analysis.now.classes by_length.new.items) }
 {
     for k_limit in first..last {
-        let AtLength { lists, is_last } = lists_at(alloc, analysis, own, k_limit)?;
+        let AtLength { lists, is_last } = lists_at(alloc, analysis, own, limit, k_limit)?;
         if is_last {
             add_same(alloc, &lists, k_limit, last, by_length)?;
             return Ok(());
@@ -178,8 +184,9 @@ pub(crate) fn by_length(
 {
     let mut by_length = Vec::new(alloc);
     let k_limit = analysis.k_limit;
-    add_lists(alloc, analysis, own, 0, k_limit, &mut by_length)?;
+    let limit = needed_limit(analysis);
+    add_lists(alloc, analysis, own, limit, 0, k_limit, &mut by_length)?;
     by_length.push(Lists::Inferred(same_lists(alloc, own)?))?;
-    add_lists(alloc, analysis, own, k_limit + 1, 9, &mut by_length)?;
+    add_lists(alloc, analysis, own, limit, k_limit + 1, 9, &mut by_length)?;
     Ok(Items::from_vec(by_length))
 }

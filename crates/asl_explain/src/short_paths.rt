@@ -1,5 +1,5 @@
 //! Whether all that is needed has shorter paths than there may be, so that it is the same with longer ones.
-ghost use Rattle.std.specs.Prelude.{◌≡◌, ◌≤◌, ℕ, IsTrue, IfOk, length};
+ghost use Rattle.std.specs.Prelude.{◌≡◌, ◌≤◌, ℕ, IsTrue, IfOk, IfSome, length};
 ghost use Rattle.asl_lower.specs.Regions.{Inside, Body};
 ghost use Rattle.asl_backward_flow.specs.Flows.{IsFlow};
 ghost use Rattle.asl_backward_flow.specs.Needed.{AreParts, region_of};
@@ -71,8 +71,22 @@ fn are_bodies_below(flow: &Flow, lowering: &Lowering, limit: usize) -> bool
     true
 }
 
+/// Of how many operations all paths that are needed have fewer: the least number, if one serves up to what paths may have.
+pub fn needed_limit(analysis: &ExplainAnalysis) -> Option<usize>
+    requires { IsAnalysed analysis.now }
+    ensures { IfSome result (AreNeedsBelow (read analysis.now)) }
+{
+    let most = analysis.k_limit as usize;
+    for limit in 1..most + 1 {
+        if are_needs_below(analysis, limit) {
+            return Some(limit);
+        }
+    }
+    None
+}
+
 /// Whether all that is needed has paths of fewer operations than so many.
-pub fn are_needs_below(analysis: &ExplainAnalysis, limit: usize) -> bool
+fn are_needs_below(analysis: &ExplainAnalysis, limit: usize) -> bool
     requires { IsAnalysed analysis.now }
     ensures { IsTrue result → AreNeedsBelow (read analysis.now) limit }
 {
