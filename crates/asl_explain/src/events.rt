@@ -246,6 +246,28 @@ impl Events {
         Some(self.skips.pass(pc, change))
     }
 
+    /// The first call or return from a pc on, if all ways lead there; else the first jump from which some do not.
+    pub fn first_turn(&self, pc: u16) -> Option<Passed> {
+        let turn = first_from(&self.turns, pc)?;
+        Some(self.skips.pass(pc, turn))
+    }
+
+    /// How many calls and returns are among so many instructions from a pc on.
+    pub fn count_turns(&self, pc: u16, len: usize) -> usize {
+        let end = usize::from(pc).saturating_add(len);
+        let first = match self.turns.binary_search(&pc) {
+            Ok(place) | Err(place) => place,
+        };
+        let mut count: usize = 0;
+        for turn in self.turns.iter().skip(first) {
+            if usize::from(*turn) >= end {
+                break;
+            }
+            count = count.saturating_add(1);
+        }
+        count
+    }
+
     /// The first instruction from a pc on, other than a jump, at which something may happen to a lock of the function.
     fn next_change(&self, function: u16, lock: &Lock, pc: u16) -> Option<u16> {
         let turn = first_from(&self.turns, pc);

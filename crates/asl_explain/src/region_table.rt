@@ -73,6 +73,14 @@ impl RegionTable {
         }
     }
 
+    /// Whether no lock's evaluation reads the cell of the lock of a number.
+    pub fn is_evaluated_alone(&self, number: usize) -> bool {
+        match self.longer.get(number) {
+            Some(longer) => longer.len() == 0,
+            None => true,
+        }
+    }
+
     /// The expressions of a class on a register whose paths are as long as they may be.
     pub fn full(&self, register: u8, class: u16) -> &[u16] {
         match self.full.get(&OfClass { register, class }) {

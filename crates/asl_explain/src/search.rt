@@ -2,10 +2,13 @@
 //! finds: each chain is looked at again before it is kept (`confirm.rt`).
 ghost use Rattle.asl_explain.specs.Analysed.{IsAnalysed};
 
+mod calls;
 mod chains;
+mod gates;
 mod graph;
 mod nodes;
 mod others;
+mod passing;
 mod point;
 mod points;
 mod seek;
@@ -16,6 +19,7 @@ mod ways;
 use crate::confirm::{is_on, made_at};
 use crate::explain_analysis::ExplainAnalysis;
 use crate::explained_value::{Chain, Ending, Why};
+use crate::search::gates::Gates;
 use crate::search::graph::Graph;
 use crate::search::nodes::{Cost, Nodes, Way};
 pub use crate::search::others::Others;
@@ -76,6 +80,7 @@ pub struct Searcher {
     alloc: Global,
     graph: Graph,
     nodes: Nodes,
+    gates: Gates,
     /// The ways on from the point that is looked at.
     ways: Vec<Way>,
     search: LockSearch,
@@ -158,6 +163,7 @@ impl Searcher {
             alloc,
             graph: Graph::new(alloc, analysis)?,
             nodes: Nodes::new(alloc),
+            gates: Gates::new(alloc),
             ways: Vec::new(alloc),
             search: no_search(alloc, analysis.lowering.code().len())?,
             most: usize::MAX,
@@ -277,6 +283,7 @@ impl Searcher {
     fn begin(&mut self) {
         if self.nodes.is_full() {
             self.nodes = Nodes::new(self.alloc);
+            self.gates = Gates::new(self.alloc);
         }
         self.search.begin();
     }

@@ -3,6 +3,7 @@
 use crate::events::{Events, find_events};
 use crate::explain_analysis::ExplainAnalysis;
 use crate::region_table::{RegionTable, make_table};
+use crate::search::calls::{CallSite, Calls, Taking, find_calls};
 use crate::search::point::{Point, lock_of, narrow, point_of};
 use asl_backward_flow::Region;
 use asl_code::Instr;
@@ -22,6 +23,9 @@ struct Placed {
     place: u16,
 }
 
+/// So many calls of a body are passed one by one.
+const FEW_CALLS: usize = 4;
+
 /// What the points of a program are read from.
 #[derive(Drop)]
 pub(crate) struct Graph {
@@ -31,6 +35,8 @@ pub(crate) struct Graph {
     bodies: Vec<Option<u16>>,
     /// The tables of the bodies that a search came to, and of one section, by their places in the flow.
     tables: Vec<Option<RegionTable>>,
+    /// The calls of these bodies, of those that have many.
+    calls: Vec<Option<Calls>>,
     /// That section.
     section: Option<Placed>,
 }
@@ -49,6 +55,7 @@ impl Graph {
             events: find_events(alloc, &analysis.lowering)?,
             bodies,
             tables: Vec::new(alloc),
+            calls: Vec::new(alloc),
             section: None,
         })
     }
@@ -116,10 +123,71 @@ impl Graph {
             .get(usize::from(point.pc))
         {
             if let Some(place) = self.body(*function) {
-                self.prepare(analysis, place, Region::Body(*function), *function)?;
+                self.enter_body(analysis, place, *function)?;
             }
         }
         Ok(())
+    }
+
+    /// The first pc of the function whose body is at a place. Sees to it that there is a table of the body, and that its calls are known.
+    pub(crate) fn enter_body(
+        &mut self,
+        analysis: &ExplainAnalysis,
+        place: u16,
+        function: u16,
+    ) -> Result<Option<u16>, AllocError> {
+        let lowering = &analysis.lowering;
+        let Some(entry) = lowering.functions().get(usize::from(function)) else {
+            return Ok(None);
+        };
+        let start = lowering.start(function);
+        if self.table_of(place).is_none() {
+            self.prepare(analysis, place, Region::Body(function), function)?;
+            self.prepare_calls(analysis, place, start, entry.len as usize)?;
+        }
+        Ok(Some(start))
+    }
+
+    /// Notes the calls of the body at a place, which has so many instructions from a pc on, if they are many.
+    fn prepare_calls(
+        &mut self,
+        analysis: &ExplainAnalysis,
+        place: u16,
+        start: u16,
+        len: usize,
+    ) -> Result<(), AllocError> {
+        for _ in self.calls.len()..usize::from(place) + 1 {
+            self.calls.push(None)?;
+        }
+        if self.events.count_turns(start, len) <= FEW_CALLS {
+            return Ok(());
+        }
+        let Some(first) = self.events.first_turn(start) else {
+            return Ok(());
+        };
+        let calls = find_calls(self.alloc, analysis, start, len, first.pc)?;
+        if let Some(slot) = self.calls.get_mut(usize::from(place)) {
+            *slot = Some(calls);
+        }
+        Ok(())
+    }
+
+    /// The calls of the body at a place, if they are many.
+    pub(crate) fn calls_of(&self, place: u16) -> Option<&Calls> {
+        match self.calls.get(usize::from(place)) {
+            Some(Some(calls)) => Some(calls),
+            _ => None,
+        }
+    }
+
+    /// The call of a number of the body at a place.
+    pub(crate) fn site(&self, place: u16, number: usize) -> Option<CallSite> {
+        self.calls_of(place)?.sites.get(number).copied()
+    }
+
+    /// The instruction of a number that takes an address in the body at a place.
+    pub(crate) fn taking(&self, place: u16, number: usize) -> Option<Taking> {
+        self.calls_of(place)?.takings.get(number).copied()
     }
 
     /// Sees to it that there is a table of the region at a place.

@@ -8,11 +8,21 @@ use std::collections::HashMap;
 /// So many points are kept from search to search.
 const MOST_KEPT: usize = 262144;
 
+/// And so many edges.
+const MOST_EDGES: usize = 524288;
+
 /// What a search has passed on its way, by which a chain is cheaper than another: fewer changes of the lock, then fewer instructions.
 #[derive(Clone, Copy, PartialEq, Eq, PartialOrd, Ord)]
 pub(crate) struct Cost {
     pub(crate) changes: u32,
     pub(crate) instructions: u32,
+}
+
+/// From where a search came to a point. Of two ways that cost as much the one by the lesser of these is taken.
+#[derive(Clone, Copy, PartialEq, Eq, PartialOrd, Ord)]
+pub(crate) struct Via {
+    pub(crate) cost: Cost,
+    pub(crate) point: Point,
 }
 
 /// How the last search that came to a point came there.
@@ -21,6 +31,7 @@ pub(crate) struct Visit {
     /// The number of the search; no search has the number 0.
     pub(crate) search: u32,
     pub(crate) cost: Cost,
+    pub(crate) via: Via,
     /// The last change on the way.
     pub(crate) last: Option<usize>,
     /// Whether the search has looked where the point leads.
@@ -35,12 +46,25 @@ pub(crate) struct Way {
     pub(crate) why: Option<Why>,
 }
 
-/// A way to the point of a number, over so many instructions.
+/// A way to the point of a number, over so many instructions. The lock changes at a pc, after so many of them, if it does.
 #[derive(Clone, Copy)]
 pub(crate) struct Edge {
     pub(crate) to: usize,
     pub(crate) instructions: u32,
+    pub(crate) passed: u32,
+    pub(crate) pc: u16,
     pub(crate) why: Option<Why>,
+}
+
+/// What a way to a point is beside those that the search has found.
+#[derive(Clone, Copy, PartialEq, Eq)]
+pub(crate) enum Compared {
+    /// It is the first, or it costs less.
+    Nearer(Point),
+    /// It costs as much, and is to be taken.
+    Before,
+    /// Another is as near.
+    Behind,
 }
 
 /// What is known of where a point leads.
@@ -75,10 +99,8 @@ fn new_node(point: Point) -> Node {
         point,
         visit: Visit {
             search: 0,
-            cost: Cost {
-                changes: 0,
-                instructions: 0,
-            },
+            cost: Cost::none(),
+            via: Via::start(),
             last: None,
             is_done: false,
         },
@@ -86,7 +108,37 @@ fn new_node(point: Point) -> Node {
     }
 }
 
+impl Via {
+    /// From where a search begins.
+    pub(crate) fn start() -> Via {
+        Via {
+            cost: Cost::none(),
+            point: Point {
+                place: 0,
+                pc: 0,
+                number: 0,
+            },
+        }
+    }
+}
+
 impl Cost {
+    /// What nothing costs.
+    pub(crate) fn none() -> Cost {
+        Cost {
+            changes: 0,
+            instructions: 0,
+        }
+    }
+
+    /// The cost after so many instructions more.
+    pub(crate) fn passing(self, instructions: u32) -> Cost {
+        Cost {
+            changes: self.changes,
+            instructions: self.instructions.saturating_add(instructions),
+        }
+    }
+
     /// The cost of both.
     pub(crate) fn with(self, more: Cost) -> Cost {
         Cost {
@@ -117,7 +169,7 @@ impl Nodes {
 
     /// Whether there are too many points to be kept.
     pub(crate) fn is_full(&self) -> bool {
-        self.nodes.len() > MOST_KEPT
+        self.nodes.len() > MOST_KEPT || self.edges.len() > MOST_EDGES
     }
 
     /// The number of a point, which is kept from now on.
@@ -131,14 +183,26 @@ impl Nodes {
         Ok(number)
     }
 
-    /// The point of a number, if the search has not come to it, or only at a higher cost and without looking where it leads.
-    pub(crate) fn nearer(&self, number: usize, search: u32, cost: Cost) -> Option<Point> {
-        let node = self.nodes.get(number)?;
+    /// What a way of this search to the point of a number is beside those that it has found.
+    pub(crate) fn compare(&self, number: usize, search: u32, cost: Cost, via: Via) -> Compared {
+        let Some(node) = self.nodes.get(number) else {
+            return Compared::Behind;
+        };
         let visit = node.visit;
-        if visit.search == search && (visit.is_done || visit.cost <= cost) {
-            return None;
+        if visit.search != search {
+            return Compared::Nearer(node.point);
         }
-        Some(node.point)
+        if visit.is_done || visit.cost < cost {
+            return Compared::Behind;
+        }
+        if cost < visit.cost {
+            return Compared::Nearer(node.point);
+        }
+        if via < visit.via {
+            Compared::Before
+        } else {
+            Compared::Behind
+        }
     }
 
     /// Notes how a search came to the point of a number.
@@ -182,19 +246,27 @@ impl Nodes {
         self.edges.len()
     }
 
-    /// Adds an edge to a point.
+    /// Adds an edge from a pc to a point.
     pub(crate) fn add(
         &mut self,
+        pc: u16,
         to: Point,
         instructions: u32,
         why: Option<Why>,
     ) -> Result<(), AllocError> {
         let to = self.number(to)?;
-        self.edges.push(Edge {
+        self.add_edge(Edge {
             to,
             instructions,
+            passed: 0,
+            pc,
             why,
-        })?;
+        })
+    }
+
+    /// Adds an edge.
+    pub(crate) fn add_edge(&mut self, edge: Edge) -> Result<(), AllocError> {
+        self.edges.push(edge)?;
         Ok(())
     }
 

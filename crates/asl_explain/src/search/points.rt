@@ -3,7 +3,7 @@ ghost use Rattle.asl_explain.specs.Analysed.{IsAnalysed};
 
 use crate::explain_analysis::ExplainAnalysis;
 use crate::search::graph::Ahead;
-use crate::search::nodes::{Cost, Edge, Onward, Visit, Way};
+use crate::search::nodes::{Compared, Cost, Edge, Onward, Via, Visit, Way};
 use crate::search::point::{Point, lock_of};
 use crate::search::{Access, Searcher, Waiting};
 use asl_code::{Base, Effect, Instr, Lock};
@@ -58,18 +58,13 @@ impl Searcher {
             return Ok(());
         };
         let number = self.nodes.number(to)?;
-        let cost = Cost {
-            changes: 0,
-            instructions,
-        };
-        if self
-            .nodes
-            .nearer(number, self.search.number, cost)
-            .is_some()
-        {
-            self.wait(to, number, cost, last)?;
+        let cost = Cost::none().passing(instructions);
+        let via = Via::start();
+        let search = self.search.number;
+        match self.nodes.compare(number, search, cost, via) {
+            Compared::Nearer(_) => self.wait(to, number, cost, via, last),
+            Compared::Before | Compared::Behind => Ok(()),
         }
-        Ok(())
     }
 
     /// Puts a point among those that wait, or among the entries of bodies where these are left for later.
@@ -78,15 +73,10 @@ impl Searcher {
         point: Point,
         number: usize,
         cost: Cost,
+        via: Via,
         last: Option<usize>,
     ) -> Result<(), AllocError> {
-        let visit = Visit {
-            search: self.search.number,
-            cost,
-            last,
-            is_done: false,
-        };
-        self.nodes.visit(number, visit);
+        self.visit(number, cost, via, last);
         let waiting = Waiting {
             cost,
             point,
@@ -98,6 +88,18 @@ impl Searcher {
             self.search.waiting.push(Reverse(waiting))?;
         }
         Ok(())
+    }
+
+    /// Notes how the search came to the point of a number.
+    fn visit(&mut self, number: usize, cost: Cost, via: Via, last: Option<usize>) {
+        let visit = Visit {
+            search: self.search.number,
+            cost,
+            via,
+            last,
+            is_done: false,
+        };
+        self.nodes.visit(number, visit);
     }
 
     /// Looks where a point leads, unless the search has done so.
@@ -131,15 +133,9 @@ impl Searcher {
             return Ok(onward);
         }
         let point = waiting.point;
-        self.graph.enter(analysis, point)?;
-        self.ways.clear();
-        self.graph.add_ways(analysis, point, &mut self.ways)?;
         let first = self.nodes.count();
-        for way in &self.ways {
-            let Way { to: from, why } = *way;
-            if let Some(Ahead { to, instructions }) = self.graph.event(analysis, from) {
-                self.nodes.add(to, instructions.saturating_add(1), why)?;
-            }
+        if !self.add_passing(analysis, point)? {
+            self.add_edges(analysis, point)?;
         }
         Ok(
             self.nodes
@@ -147,7 +143,24 @@ impl Searcher {
         )
     }
 
-    /// Goes along an edge from a point, with the last change on the way to it, if no way to the edge's end is known that is as cheap.
+    /// Adds the edges from a point to those at which something may happen next.
+    fn add_edges(&mut self, analysis: &ExplainAnalysis, point: Point) -> Result<(), AllocError>
+        requires { IsAnalysed analysis.now }
+    {
+        self.graph.enter(analysis, point)?;
+        self.ways.clear();
+        self.graph.add_ways(analysis, point, &mut self.ways)?;
+        for way in &self.ways {
+            let Way { to: from, why } = *way;
+            if let Some(Ahead { to, instructions }) = self.graph.event(analysis, from) {
+                let instructions = instructions.saturating_add(1);
+                self.nodes.add(point.pc, to, instructions, why)?;
+            }
+        }
+        Ok(())
+    }
+
+    /// Goes along an edge from a point, with the last change on the way to it, unless a way to the edge's end is known that is as near.
     fn go_along(
         &mut self,
         from: Waiting,
@@ -155,13 +168,25 @@ impl Searcher {
         last: Option<usize>,
     ) -> Result<(), AllocError> {
         let cost = from.cost.after(edge);
-        let Some(to) = self.nodes.nearer(edge.to, self.search.number, cost) else {
-            return Ok(());
+        let via = Via {
+            cost: from.cost.passing(edge.passed),
+            point: Point {
+                pc: edge.pc,
+                ..from.point
+            },
         };
+        let compared = self.nodes.compare(edge.to, self.search.number, cost, via);
+        if compared == Compared::Behind {
+            return Ok(());
+        }
         let last = match edge.why {
-            Some(why) => Some(self.search.change(from.point, why, last)?),
+            Some(why) => Some(self.search.change(via.point, why, last)?),
             None => last,
         };
-        self.wait(to, edge.to, cost, last)
+        if let Compared::Nearer(to) = compared {
+            return self.wait(to, edge.to, cost, via, last);
+        }
+        self.visit(edge.to, cost, via, last);
+        Ok(())
     }
 }

@@ -4,7 +4,7 @@ ghost use Rattle.asl_explain.specs.Analysed.{IsAnalysed};
 
 use crate::explain_analysis::ExplainAnalysis;
 use crate::explained_value::{Chain, Step, Why};
-use crate::search::nodes::Cost;
+use crate::search::nodes::{Cost, Via};
 use crate::search::point::Point;
 use crate::search::statements::Statements;
 use crate::search::trees::{First, Range, Tree, Turn, overlap};
@@ -134,11 +134,7 @@ impl Searcher {
     {
         self.begin();
         let number = self.nodes.number(from)?;
-        let free = Cost {
-            changes: 0,
-            instructions: 0,
-        };
-        self.wait(from, number, free, None)?;
+        self.wait(from, number, Cost::none(), Via::start(), None)?;
         self.go_on(analysis, usize::MAX)?;
         let (first, turns) = match self.search.accesses.first().copied() {
             Some(access) => (Some(access.first()), self.turns(access.last)?),
