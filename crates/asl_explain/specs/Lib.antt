@@ -6,6 +6,7 @@ pub mod Told
 pub mod Analysed
 pub mod Endings
 pub mod Gaps
+pub mod Known
 pub mod Lengths
 pub mod Opened
 pub mod Telling

@@ -6,13 +6,14 @@ ghost use Rattle.asl_lower.specs.Regions.{Inside};
 ghost use Rattle.asl_explain.specs.declared.explained_value.Step.{Step as StepValue};
 ghost use Rattle.asl_explain.specs.Chains.{Follows, EndsAt, IsChain, IsOn, IsDropped};
 ghost use Rattle.asl_explain.specs.Explained.{IsEnding};
-ghost use Rattle.asl_explain.specs.Analysed.{read, AreStretches, IsAnalysed, IsMadeAt};
+ghost use Rattle.asl_explain.specs.Analysed.{read, IsAnalysed, IsMadeAt};
+ghost use Rattle.asl_explain.specs.Known.{AreKnown};
 
-use crate::confirm_step::{follows, instr_at, is_access, is_needed};
+use crate::confirm_step::{instr_at, is_access, is_following, is_needed};
 use crate::explain_analysis::ExplainAnalysis;
 use crate::explained_value::{Ending, Step};
+use crate::known::Known;
 use crate::links::are_same;
-use crate::stretch::Stretch;
 use crate::walk::stays_to;
 use asl_backward_flow::Region;
 use asl_code::{Base, Instr, Lock};
@@ -23,17 +24,17 @@ use std::alloc::{AllocError, Global};
 fn all_follow(
     alloc: Global,
     analysis: &ExplainAnalysis,
-    known: &mut Vec<Stretch>,
+    known: &mut Known,
     steps: &[Step],
 ) -> Result<bool, AllocError>
     requires analysed { IsAnalysed analysis.now }
-    requires known { AreStretches (read analysis.now) known.old.items }
-    ensures known { OnOk result (AreStretches (read analysis.now) known.new.items) }
+    requires known { AreKnown (read analysis.now) known.old }
+    ensures known { OnOk result (AreKnown (read analysis.now) known.new) }
     ensures follow { IfOk result (λ b. IsTrue b → (n : ℕ) (before s : StepValue) → slice_get steps.now n ≡ Some before → slice_get steps.now (suc n) ≡ Some s
         → Follows (read analysis.now) before s) }
 {
     for number in 1..steps.len() {
-        if !follows(alloc, analysis, known, &steps[number - 1], &steps[number])? {
+        if !is_following(alloc, analysis, known, &steps[number - 1], &steps[number])? {
             return Ok(false);
         }
     }
@@ -44,15 +45,15 @@ fn all_follow(
 fn ends_at(
     alloc: Global,
     analysis: &ExplainAnalysis,
-    known: &mut Vec<Stretch>,
+    known: &mut Known,
     section: u16,
     pc: u16,
     lock: &Lock,
     steps: &[Step],
 ) -> Result<bool, AllocError>
     requires analysed { IsAnalysed analysis.now }
-    requires known { AreStretches (read analysis.now) known.old.items }
-    ensures known { OnOk result (AreStretches (read analysis.now) known.new.items) }
+    requires known { AreKnown (read analysis.now) known.old }
+    ensures known { OnOk result (AreKnown (read analysis.now) known.new) }
     ensures ends { IfOk result (λ b. IsTrue b → EndsAt (read analysis.now) (Inside section) (suc pc) lock.now steps.now) }
 {
     let (Some(step), Some(start)) = (steps.last(), pc.checked_add(1)) else {
@@ -69,15 +70,15 @@ fn ends_at(
 pub fn is_chain(
     alloc: Global,
     analysis: &ExplainAnalysis,
-    known: &mut Vec<Stretch>,
+    known: &mut Known,
     section: u16,
     pc: u16,
     lock: &Lock,
     steps: &[Step],
 ) -> Result<bool, AllocError>
     requires analysed { IsAnalysed analysis.now }
-    requires known { AreStretches (read analysis.now) known.old.items }
-    ensures known { OnOk result (AreStretches (read analysis.now) known.new.items) }
+    requires known { AreKnown (read analysis.now) known.old }
+    ensures known { OnOk result (AreKnown (read analysis.now) known.new) }
     ensures chain { IfOk result (λ b. IsTrue b → IsChain (read analysis.now) (Inside section) (suc pc) lock.now steps.now) }
 {
     let Some(first) = steps.first() else {
@@ -171,6 +172,6 @@ pub fn is_ending(
         return Ok(false);
     }
     let steps = ending.chain.steps.as_slice();
-    let mut known = Vec::new(alloc);
+    let mut known = Known::new(alloc);
     is_chain(alloc, analysis, &mut known, number, ending.pc, lock, steps)
 }

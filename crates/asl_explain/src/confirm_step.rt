@@ -6,12 +6,13 @@ ghost use Rattle.asl_lower.specs.OpenSections.{FlowsTo, start_of};
 ghost use Rattle.asl_lower.specs.Regions.{Body, IsIn};
 ghost use Rattle.asl_backward_flow.specs.Needed.{region_of};
 ghost use Rattle.asl_explain.specs.Chains.{Needs, Stays, StandsAt, IsAccess, IsLink, IsEntry, IsFront, Follows};
-ghost use Rattle.asl_explain.specs.Analysed.{read, AreStretches, IsAnalysed};
+ghost use Rattle.asl_explain.specs.Analysed.{read, IsAnalysed};
+ghost use Rattle.asl_explain.specs.Known.{AreKnown};
 
 use crate::explain_analysis::ExplainAnalysis;
 use crate::explained_value::{Step, Why};
+use crate::known::Known;
 use crate::links::{are_same, is_accessed, is_dereferenced, is_entered, is_link};
-use crate::stretch::Stretch;
 use crate::walk::stays_to;
 use asl_backward_flow::Region;
 use asl_code::{Instr, Lock};
@@ -80,7 +81,7 @@ fn find_here(analysis: &ExplainAnalysis, step: &Step) -> Option<Here>
 fn stays_after(
     alloc: Global,
     analysis: &ExplainAnalysis,
-    known: &mut Vec<Stretch>,
+    known: &mut Known,
     region: Region,
     pc: u16,
     lock: &Lock,
@@ -88,8 +89,8 @@ fn stays_after(
 ) -> Result<bool, AllocError>
     requires analysed { IsAnalysed analysis.now }
     requires there { pc < length analysis.now.lowering.code }
-    requires known { AreStretches (read analysis.now) known.old.items }
-    ensures known { OnOk result (AreStretches (read analysis.now) known.new.items) }
+    requires known { AreKnown (read analysis.now) known.old }
+    ensures known { OnOk result (AreKnown (read analysis.now) known.new) }
     ensures stays { IfOk result (λ b. IsTrue b → (i : Instr) → slice_get analysis.now.lowering.code pc ≡ Some i
         → (next : ℕ) × FlowsTo i pc next × Needs (read analysis.now) (region_of region) next lock.now
         × Stays (read analysis.now) (region_of region) lock.now next to) }
@@ -130,13 +131,13 @@ pub(crate) fn is_access(
 fn is_linked(
     alloc: Global,
     analysis: &ExplainAnalysis,
-    known: &mut Vec<Stretch>,
+    known: &mut Known,
     before: &Step,
     step: &Step,
 ) -> Result<bool, AllocError>
     requires analysed { IsAnalysed analysis.now }
-    requires known { AreStretches (read analysis.now) known.old.items }
-    ensures known { OnOk result (AreStretches (read analysis.now) known.new.items) }
+    requires known { AreKnown (read analysis.now) known.old }
+    ensures known { OnOk result (AreKnown (read analysis.now) known.new) }
     ensures step { IfOk result (λ b. IsTrue b → IsLink (read analysis.now) before.now step.now) }
 {
     if step.region != before.region {
@@ -164,13 +165,13 @@ fn is_linked(
 fn is_entry(
     alloc: Global,
     analysis: &ExplainAnalysis,
-    known: &mut Vec<Stretch>,
+    known: &mut Known,
     before: &Step,
     step: &Step,
 ) -> Result<bool, AllocError>
     requires analysed { IsAnalysed analysis.now }
-    requires known { AreStretches (read analysis.now) known.old.items }
-    ensures known { OnOk result (AreStretches (read analysis.now) known.new.items) }
+    requires known { AreKnown (read analysis.now) known.old }
+    ensures known { OnOk result (AreKnown (read analysis.now) known.new) }
     ensures step { IfOk result (λ b. IsTrue b → IsEntry (read analysis.now) before.now step.now) }
 {
     let Some(here) = find_here(analysis, step) else {
@@ -198,13 +199,13 @@ fn is_entry(
 fn needed_params(
     alloc: Global,
     analysis: &ExplainAnalysis,
-    known: &mut Vec<Stretch>,
+    known: &mut Known,
     function: u16,
     step: &Step,
 ) -> Result<Option<u8>, AllocError>
     requires analysed { IsAnalysed analysis.now }
-    requires known { AreStretches (read analysis.now) known.old.items }
-    ensures known { OnOk result (AreStretches (read analysis.now) known.new.items) }
+    requires known { AreKnown (read analysis.now) known.old }
+    ensures known { OnOk result (AreKnown (read analysis.now) known.new) }
     ensures params { IfOk result (λ found. IfSome found (λ params. (e : Function) × (slice_get analysis.now.lowering.functions function ≡ Some e) × (e.params ≡ params)
         × Needs (read analysis.now) (Body function) (start_of analysis.now.lowering.functions function) step.now.lock
         × Stays (read analysis.now) (Body function) step.now.lock (start_of analysis.now.lowering.functions function) step.now.pc)) }
@@ -225,13 +226,13 @@ fn needed_params(
 fn is_front(
     alloc: Global,
     analysis: &ExplainAnalysis,
-    known: &mut Vec<Stretch>,
+    known: &mut Known,
     before: &Step,
     step: &Step,
 ) -> Result<bool, AllocError>
     requires analysed { IsAnalysed analysis.now }
-    requires known { AreStretches (read analysis.now) known.old.items }
-    ensures known { OnOk result (AreStretches (read analysis.now) known.new.items) }
+    requires known { AreKnown (read analysis.now) known.old }
+    ensures known { OnOk result (AreKnown (read analysis.now) known.new) }
     ensures step { IfOk result (λ b. IsTrue b → IsFront (read analysis.now) before.now step.now) }
 {
     if step.region != before.region {
@@ -251,17 +252,40 @@ fn is_front(
     is_dereferenced(alloc, &before.lock, &step.lock)
 }
 
-/// Whether the step follows from the one before it.
-pub(crate) fn follows(
+/// Whether the step follows from the one before it. What is found in bodies is kept, since many sections call one.
+pub(crate) fn is_following(
     alloc: Global,
     analysis: &ExplainAnalysis,
-    known: &mut Vec<Stretch>,
+    known: &mut Known,
     before: &Step,
     step: &Step,
 ) -> Result<bool, AllocError>
     requires analysed { IsAnalysed analysis.now }
-    requires known { AreStretches (read analysis.now) known.old.items }
-    ensures known { OnOk result (AreStretches (read analysis.now) known.new.items) }
+    requires known { AreKnown (read analysis.now) known.old }
+    ensures known { OnOk result (AreKnown (read analysis.now) known.new) }
+    ensures follows { IfOk result (λ b. IsTrue b → Follows (read analysis.now) before.now step.now) }
+{
+    if known.has_pair(before, step) {
+        return Ok(true);
+    }
+    if !follows(alloc, analysis, known, before, step)? {
+        return Ok(false);
+    }
+    known.keep_pair(before, step)?;
+    Ok(true)
+}
+
+/// Whether the step follows from the one before it, where that is not known.
+fn follows(
+    alloc: Global,
+    analysis: &ExplainAnalysis,
+    known: &mut Known,
+    before: &Step,
+    step: &Step,
+) -> Result<bool, AllocError>
+    requires analysed { IsAnalysed analysis.now }
+    requires known { AreKnown (read analysis.now) known.old }
+    ensures known { OnOk result (AreKnown (read analysis.now) known.new) }
     ensures follows { IfOk result (λ b. IsTrue b → Follows (read analysis.now) before.now step.now) }
 {
     match step.why {

@@ -2,6 +2,7 @@
 ghost use Rattle.std.specs.Prelude.{◌≡◌, ◌++◌, Some, IfOk, OnOk, length, slice_get, string_bytes};
 ghost use Rattle.std.specs.List.{flat_map};
 ghost use Rattle.asl_explain.specs.Analysed.{read, IsAnalysed};
+ghost use Rattle.asl_explain.specs.Known.{AreKnown};
 ghost use Rattle.asl_explain.specs.Told.{section_in, section_words, count_words, head_told, lock_told, section_told};
 ghost use Rattle.asl_explain.specs.ClassReasons.{lock_block};
 ghost use Rattle.asl_explain.specs.Telling.{Tells, TellsSection, TellsSections, given};
@@ -10,6 +11,7 @@ use crate::class_reasons::{ClassTeller, push_lock_block};
 use crate::ended::ended_of;
 use crate::explain_analysis::ExplainAnalysis;
 use crate::explained_value::{Ended, Listed};
+use crate::known::Known;
 use crate::making::explained_section;
 use crate::search::{Others, Searcher, Statements};
 use crate::text::{MAX_EXPLAINED, Teller, push_between, push_plural};
@@ -29,6 +31,7 @@ pub fn text_of(
     ensures { IfOk result (λ text. TellsSections (read analysis.now) lists.now (given teller.now) (length analysis.now.lowering.sections) (string_bytes text)) }
 {
     let mut searcher = searcher_of(teller, analysis)?;
+    let mut known = Known::new(teller.alloc);
     let mut text = String::new(teller.alloc);
     for (number, section) in analysis.lowering.sections().iter().enumerate() {
         let list = lists[number].as_slice();
@@ -37,6 +40,7 @@ pub fn text_of(
             teller,
             analysis,
             &mut searcher,
+            &mut known,
             &mut text,
             number,
             *section,
@@ -60,6 +64,7 @@ fn push_explained(
     teller: &Teller<'_>,
     analysis: &ExplainAnalysis,
     searcher: &mut Searcher,
+    known: &mut Known,
     text: &mut String,
     number: u16,
     section: Section,
@@ -67,10 +72,12 @@ fn push_explained(
 ) -> Result<(), AllocError>
     requires analysed { IsAnalysed analysis.now }
     requires there { slice_get analysis.now.lowering.sections number ≡ Some section }
-    ensures { OnOk result (TellsSection (read analysis.now) number section list.now (given teller.now) (string_bytes text.old) (string_bytes text.new)) }
+    requires known { AreKnown (read analysis.now) known.old }
+    ensures known { OnOk result (AreKnown (read analysis.now) known.new) }
+    ensures tells { OnOk result (TellsSection (read analysis.now) number section list.now (given teller.now) (string_bytes text.old) (string_bytes text.new)) }
 {
     let alloc = teller.alloc;
-    let listed = explained_section(alloc, analysis, searcher, number, section, list)?;
+    let listed = explained_section(alloc, analysis, searcher, known, number, section, list)?;
     let ended = ended_of(alloc, analysis, searcher, number, section)?;
     push_section(
         teller,

@@ -12,6 +12,7 @@ mod explained_text;
 mod explained_value;
 mod fault;
 mod gaps;
+mod known;
 mod laws;
 mod links;
 mod lists_by_length;

@@ -1,5 +1,5 @@
 //! Why the lists of a program are as they are.
-ghost use Rattle.std.specs.Prelude.{◌≡◌, ◌↔◌, suc, IfOk, IsTrue, length};
+ghost use Rattle.std.specs.Prelude.{◌≡◌, ◌↔◌, suc, IfOk, OnOk, IsTrue, length};
 ghost use Rattle.asl_code.specs.declared.lock.Lock.{Lock as AnyLock};
 ghost use Rattle.asl_lower.specs.Regions.{Inside};
 ghost use Rattle.asl_lock_expr.specs.Links.{IsOne};
@@ -8,11 +8,13 @@ ghost use Rattle.asl_soundness.specs.Covering.{CoversLock};
 ghost use Rattle.asl_explain.specs.Chains.{Needs};
 ghost use Rattle.asl_explain.specs.Explained.{AreChains, AreNeeds, IsListed, IsOneOf, locks_of};
 ghost use Rattle.asl_explain.specs.Analysed.{read, IsAnalysed, AreListed, AreSections, IsMade};
+ghost use Rattle.asl_explain.specs.Known.{AreKnown};
 
 use crate::confirm::is_chain;
 use crate::ended::ended_of_sections;
 use crate::explain_analysis::ExplainAnalysis;
 use crate::explained_value::{Chain, Explanation, Listed, Need};
+use crate::known::Known;
 use crate::links::copied;
 use crate::lists_by_length::by_length;
 use crate::search::Searcher;
@@ -31,15 +33,17 @@ fn confirmed(
     pc: u16,
     lock: &Lock,
     found: Vec<Chain>,
+    known: &mut Known,
 ) -> Result<Items<Chain>, AllocError>
-    requires { IsAnalysed analysis.now }
-    ensures { IfOk result (AreChains (read analysis.now) (Inside section) (suc pc) lock.now) }
+    requires analysed { IsAnalysed analysis.now }
+    requires known { AreKnown (read analysis.now) known.old }
+    ensures known { OnOk result (AreKnown (read analysis.now) known.new) }
+    ensures chains { IfOk result (AreChains (read analysis.now) (Inside section) (suc pc) lock.now) }
 {
-    let mut known = Vec::new(alloc);
     let mut chains = Vec::new(alloc);
     for chain in found {
         let steps = chain.steps.as_slice();
-        if is_chain(alloc, analysis, &mut known, section, pc, lock, steps)? {
+        if is_chain(alloc, analysis, known, section, pc, lock, steps)? {
             chains.push(chain)?;
         }
     }
@@ -81,19 +85,22 @@ fn find_need(
     alloc: Global,
     analysis: &ExplainAnalysis,
     searcher: &mut Searcher,
+    known: &mut Known,
     number: u16,
     section: Section,
     listed: &Lock,
     lock: &Lock,
 ) -> Result<Need, AllocError>
-    requires { IsAnalysed analysis.now }
+    requires analysed { IsAnalysed analysis.now }
+    requires known { AreKnown (read analysis.now) known.old }
+    ensures known { OnOk result (AreKnown (read analysis.now) known.new) }
     ensures lock { IfOk result (λ d. d.lock ≡ lock.now) }
     ensures chains { IfOk result (λ d. AreChains (read analysis.now) (Inside number) (suc section.acquire) lock.now d.chains) }
 {
     let found = searcher.chains(analysis, number, section, listed, lock)?;
     Ok(Need {
         lock: copied(lock)?,
-        chains: confirmed(alloc, analysis, number, section.acquire, lock, found)?,
+        chains: confirmed(alloc, analysis, number, section.acquire, lock, found, known)?,
     })
 }
 
@@ -102,13 +109,16 @@ fn needs_of(
     alloc: Global,
     analysis: &ExplainAnalysis,
     searcher: &mut Searcher,
+    known: &mut Known,
     number: u16,
     section: Section,
     listed: &Lock,
     locks: &[Lock],
 ) -> Result<Items<Need>, AllocError>
     requires analysed { IsAnalysed analysis.now }
+    requires known { AreKnown (read analysis.now) known.old }
     requires needed { (n : AnyLock) → IsOne locks.now n → Needs (read analysis.now) (Inside number) (suc section.acquire) n }
+    ensures known { OnOk result (AreKnown (read analysis.now) known.new) }
     ensures needs { IfOk result (AreNeeds (read analysis.now) number section) }
     ensures locks { IfOk result (λ needs. (n : AnyLock) → IsOneOf needs n ↔ IsOne locks.now n) }
     ensures same { IfOk result (λ needs. locks_of needs ≡ locks.now) }
@@ -116,7 +126,9 @@ fn needs_of(
     let mut needs = Vec::with_capacity(alloc, locks.len())?;
     searcher.begin_needs()?;
     for lock in locks {
-        needs.push(find_need(alloc, analysis, searcher, number, section, listed, lock)?)?;
+        needs.push(find_need(
+            alloc, analysis, searcher, known, number, section, listed, lock,
+        )?)?;
     }
     Ok(Items::from_vec(needs))
 }
@@ -126,6 +138,7 @@ fn list_lock(
     alloc: Global,
     analysis: &ExplainAnalysis,
     searcher: &mut Searcher,
+    known: &mut Known,
     number: u16,
     section: Section,
     all: &[Lock],
@@ -134,13 +147,17 @@ fn list_lock(
     requires analysed { IsAnalysed analysis.now }
     requires all { (n : AnyLock) → IsOne all.now n ↔ Needs (read analysis.now) (Inside number) (suc section.acquire) n }
     requires order { AreInOrder all.now }
+    requires known { AreKnown (read analysis.now) known.old }
+    ensures known { OnOk result (AreKnown (read analysis.now) known.new) }
     ensures lock { IfOk result (λ d. d.lock ≡ lock.now) }
     ensures listed { IfOk result (IsListed (read analysis.now) number section) }
 {
     let under = under(alloc, &analysis.classes, section.function, lock, all)?;
     Ok(Listed {
         lock: copied(lock)?,
-        needs: needs_of(alloc, analysis, searcher, number, section, lock, &under)?,
+        needs: needs_of(
+            alloc, analysis, searcher, known, number, section, lock, &under,
+        )?,
     })
 }
 
@@ -149,6 +166,7 @@ fn all_listed(
     alloc: Global,
     analysis: &ExplainAnalysis,
     searcher: &mut Searcher,
+    known: &mut Known,
     number: u16,
     section: Section,
     all: &[Lock],
@@ -157,11 +175,15 @@ fn all_listed(
     requires analysed { IsAnalysed analysis.now }
     requires all { (n : AnyLock) → IsOne all.now n ↔ Needs (read analysis.now) (Inside number) (suc section.acquire) n }
     requires order { AreInOrder all.now }
-    ensures { IfOk result (AreListed (read analysis.now) number section list.now) }
+    requires known { AreKnown (read analysis.now) known.old }
+    ensures known { OnOk result (AreKnown (read analysis.now) known.new) }
+    ensures listed { IfOk result (AreListed (read analysis.now) number section list.now) }
 {
     let mut listed_locks = Vec::new(alloc);
     for lock in list {
-        listed_locks.push(list_lock(alloc, analysis, searcher, number, section, all, lock)?)?;
+        listed_locks.push(list_lock(
+            alloc, analysis, searcher, known, number, section, all, lock,
+        )?)?;
     }
     Ok(Items::from_vec(listed_locks))
 }
@@ -171,17 +193,22 @@ pub(crate) fn explained_section(
     alloc: Global,
     analysis: &ExplainAnalysis,
     searcher: &mut Searcher,
+    known: &mut Known,
     number: u16,
     section: Section,
     list: &[Lock],
 ) -> Result<Items<Listed>, AllocError>
-    requires { IsAnalysed analysis.now }
-    ensures { IfOk result (AreListed (read analysis.now) number section list.now) }
+    requires analysed { IsAnalysed analysis.now }
+    requires known { AreKnown (read analysis.now) known.old }
+    ensures known { OnOk result (AreKnown (read analysis.now) known.new) }
+    ensures listed { IfOk result (AreListed (read analysis.now) number section list.now) }
 {
     searcher.begin_section();
     let start = u32::from(section.acquire) + 1;
     let all = analysis.flow.at(alloc, Region::Section(number), start)?;
-    all_listed(alloc, analysis, searcher, number, section, &all, list)
+    all_listed(
+        alloc, analysis, searcher, known, number, section, &all, list,
+    )
 }
 
 /// For each section the locks of its list.
@@ -189,17 +216,22 @@ fn explained_sections(
     alloc: Global,
     analysis: &ExplainAnalysis,
     searcher: &mut Searcher,
+    known: &mut Known,
     lists: &[Items<Lock>],
 ) -> Result<Items<Items<Listed>>, AllocError>
     requires analysed { IsAnalysed analysis.now }
     requires count { length lists.now ≡ length analysis.now.lowering.sections }
-    ensures { IfOk result (AreSections (read analysis.now) lists.now (length analysis.now.lowering.sections)) }
+    requires known { AreKnown (read analysis.now) known.old }
+    ensures known { OnOk result (AreKnown (read analysis.now) known.new) }
+    ensures sections { IfOk result (AreSections (read analysis.now) lists.now (length analysis.now.lowering.sections)) }
 {
     let mut sections = Vec::new(alloc);
     for (number, section) in analysis.lowering.sections().iter().enumerate() {
         let list = lists[number].as_slice();
         let number = number as u16;
-        sections.push(explained_section(alloc, analysis, searcher, number, *section, list)?)?;
+        sections.push(explained_section(
+            alloc, analysis, searcher, known, number, *section, list,
+        )?)?;
     }
     Ok(Items::from_vec(sections))
 }
@@ -211,8 +243,9 @@ pub fn explanation_of(alloc: Global, analysis: &ExplainAnalysis) -> Result<Expla
 {
     let own = lists(alloc, &analysis.lowering, &analysis.classes, &analysis.flow)?;
     let mut searcher = Searcher::new(alloc, analysis)?;
+    let mut known = Known::new(alloc);
     Ok(Explanation {
-        sections: explained_sections(alloc, analysis, &mut searcher, own.as_slice())?,
+        sections: explained_sections(alloc, analysis, &mut searcher, &mut known, own.as_slice())?,
         ended: ended_of_sections(alloc, analysis, &mut searcher)?,
         by_length: by_length(alloc, analysis, own.as_slice())?,
     })

@@ -28,6 +28,13 @@ fn is_of(stretch: &Stretch, region: Region, lock: &Lock, from: u16) -> bool
     stretch.region == region && stretch.from == from && are_same(&stretch.lock, lock)
 }
 
+/// Whether it is known of a lock of a region from a pc to another.
+pub fn is_way(stretch: &Stretch, region: Region, lock: &Lock, from: u16, to: u16) -> bool
+    ensures { IsTrue result → (stretch.now.region ≡ region) × (stretch.now.lock ≡ lock.now) × (stretch.now.from ≡ from) × (stretch.now.to ≡ to) }
+{
+    stretch.to == to && is_of(stretch, region, lock, from)
+}
+
 /// As far as which pc the lock is known to stay from one on, at most another; this one, if nothing is known of it.
 pub fn known_as_far(known: &[Stretch], region: Region, lock: &Lock, from: u16, to: u16) -> u16
     ensures { (x : Read) → AreStretches x known.now → Stays x (region_of region) lock.now from result }

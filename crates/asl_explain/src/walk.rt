@@ -10,13 +10,15 @@ ghost use Rattle.asl_lock_expr.specs.LinksView.{seen};
 ghost use Rattle.asl_lock_expr.specs.Stores.{stores};
 ghost use Rattle.asl_backward_flow.specs.Needed.{region_of};
 ghost use Rattle.asl_explain.specs.Chains.{Needs, Stays};
-ghost use Rattle.asl_explain.specs.Analysed.{read, AreEach, AreFrom, AreStretches, IsAnalysed, IsSettledIn, IsSpan, IsStop};
+ghost use Rattle.asl_explain.specs.Analysed.{read, AreEach, AreFrom, IsAnalysed, IsSettledIn, IsSpan, IsStop};
+ghost use Rattle.asl_explain.specs.Known.{AreKnown};
 
 use crate::confirm::is_on;
 use crate::confirm_step::{instr_at, is_needed};
 use crate::explain_analysis::ExplainAnalysis;
+use crate::known::Known;
 use crate::links::{copied, is_kept};
-use crate::stretch::{Stretch, keep, known_as_far};
+use crate::stretch::{Stretch, known_as_far};
 use asl_backward_flow::Region;
 use asl_code::{Function, Instr, Lock};
 use asl_lock_expr::{LinkContext, Touch, set_by, stays, stored_by};
@@ -297,15 +299,15 @@ fn is_reached_past(
 pub(crate) fn stays_to(
     alloc: Global,
     analysis: &ExplainAnalysis,
-    known: &mut Vec<Stretch>,
+    known: &mut Known,
     region: Region,
     lock: &Lock,
     from: u16,
     to: u16,
 ) -> Result<bool, AllocError>
     requires analysed { IsAnalysed analysis.now }
-    requires known { AreStretches (read analysis.now) known.old.items }
-    ensures known { OnOk result (AreStretches (read analysis.now) known.new.items) }
+    requires known { AreKnown (read analysis.now) known.old }
+    ensures known { OnOk result (AreKnown (read analysis.now) known.new) }
     ensures needed { IfOk result (λ b. IsTrue b → Needs (read analysis.now) (region_of region) from lock.now) }
     ensures stays { IfOk result (λ b. IsTrue b → Stays (read analysis.now) (region_of region) lock.now from to) }
 {
@@ -315,25 +317,25 @@ pub(crate) fn stays_to(
     if from == to {
         return Ok(true);
     }
+    if known.has_way(region, lock, from, to) {
+        return Ok(true);
+    }
     let Some(span) = span_of(analysis, region) else {
         return Ok(false);
     };
     if !stays(&analysis.view(span.function), &Instr::Release, lock) {
         return Ok(false);
     }
-    let far = known_as_far(known, region, lock, from, to);
+    let far = known_as_far(&known.recent, region, lock, from, to);
     if !is_reached_past(alloc, analysis, span, lock, from, far, to)? {
         return Ok(false);
     }
     let lock = copied(lock)?;
-    keep(
-        known,
-        Stretch {
-            region,
-            lock,
-            from,
-            to,
-        },
-    )?;
+    known.keep_way(Stretch {
+        region,
+        lock,
+        from,
+        to,
+    })?;
     Ok(true)
 }

@@ -7,6 +7,9 @@ use Rattle.asl_explain.specs.Analysed.{read}
 use Rattle.asl_explain.proofs.Confirming.{if_ok_so}
 use Rattle.asl_explain.proofs.confirm.is_ending.Goals as goal
 
+pub is_chain-requires-clause-known : goal.is_chain-requires-clause-known
+is_chain-requires-clause-known c = c.new-known.ensures (read c.args.analysis.now)
+
 pub returns : goal.returns
 returns c =
     let x = read c.args.analysis.now in

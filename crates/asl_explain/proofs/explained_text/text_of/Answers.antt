@@ -9,7 +9,10 @@ use Rattle.asl_explain.proofs.explained_text.text_of.Goals as goal
 pub loop-number-init : goal.loop-number-init
 loop-number-init c =
     let g = given c.args.teller.now in
-    tells_no_section (read c.args.analysis.now) c.args.lists.now g _ c.new-text.ensures.bytes
+    record {
+      tells = tells_no_section (read c.args.analysis.now) c.args.lists.now g _ c.new-text.ensures.bytes;
+      known = c.new-known.ensures (read c.args.analysis.now);
+    }
 
 pub overflow_cast-number : goal.overflow_cast-number
 overflow_cast-number c =
@@ -37,8 +40,11 @@ loop-number-preserved c =
     let lt = c.loop-number-test.true in
     let req = c.requires.count in
     let at = slice_get_read c.args.lists.now (length c.args.lists.now) n c.index-lists-number.result refl (omega (arith, many, lt, req)) c.index-lists-number.is in
-    tells_section_more (read c.args.analysis.now) c.args.lists.now g n s c.as_slice-list.result.now (string_bytes c.loop-number.text) (string_bytes c.push_explained.new.text) there (at ∙ ap Some (sym c.as_slice-list.ensures))
-    c.loop-number.invariant c.in_ok-push_explained.ensures
+    record {
+      tells = tells_section_more (read c.args.analysis.now) c.args.lists.now g n s c.as_slice-list.result.now (string_bytes c.loop-number.text) (string_bytes c.push_explained.new.text) there (at ∙ ap Some (sym c.as_slice-list.ensures))
+          c.loop-number.invariant.tells c.in_ok-push_explained.ensures.tells;
+      known = c.in_ok-push_explained.ensures.known;
+    }
 
 pub returns : goal.returns
 returns c =
@@ -49,4 +55,4 @@ returns c =
     let past = c.loop-number-test.false in
     let within = c.loop-number.auto.number-end in
     let end : c.loop-number.number ≡ length l.sections = omega (arith, many, past, within) in
-    subst (λ n. TellsSections x c.args.lists.now g n (string_bytes c.loop-number.text)) end c.loop-number.invariant
+    subst (λ n. TellsSections x c.args.lists.now g n (string_bytes c.loop-number.text)) end c.loop-number.invariant.tells

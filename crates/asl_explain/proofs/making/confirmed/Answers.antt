@@ -13,5 +13,5 @@ loop-chain-preserved-in-Continue-branch-2 c = record {
   known = c.in_ok-is_chain.ensures.known;
 }
 
-pub returns : goal.returns
-returns c = subst (AreChains (read c.args.analysis.now) (Inside c.args.section) (suc c.args.pc) c.args.lock.now) (sym c.from_vec.ensures) c.loop-chain.invariant.chains
+pub returns-clause-chains : goal.returns-clause-chains
+returns-clause-chains c = subst (AreChains (read c.args.analysis.now) (Inside c.args.section) (suc c.args.pc) c.args.lock.now) (sym c.from_vec.ensures) c.loop-chain.invariant.chains

@@ -25,11 +25,14 @@ loop-number-preserved c =
     let lt = c.loop-number-test.true in
     let req = c.requires.count in
     let at = slice_get_read c.args.lists.now (length c.args.lists.now) n c.index-lists-number.result refl (omega (arith, many, lt, req)) c.index-lists-number.is in
-    sections_more (read c.args.analysis.now) c.args.lists.now n s c.as_slice-list.result.now c.loop-number.sections.items c.push.new.self.items c.in_ok-explained_section.field-0 c.in_ok-push.ensures.items there
-    (at ∙ ap Some (sym c.as_slice-list.ensures)) c.loop-number.invariant c.in_ok-explained_section.ensures
+    record {
+      sections = sections_more (read c.args.analysis.now) c.args.lists.now n s c.as_slice-list.result.now c.loop-number.sections.items c.push.new.self.items c.in_ok-explained_section.field-0 c.in_ok-push.ensures.items there
+          (at ∙ ap Some (sym c.as_slice-list.ensures)) c.loop-number.invariant.sections c.in_ok-explained_section.ensures.listed;
+      known = c.in_ok-explained_section.ensures.known;
+    }
 
-pub returns : goal.returns
-returns c =
+pub returns-clause-sections : goal.returns-clause-sections
+returns-clause-sections c =
     let x = read c.args.analysis.now in
     let l = c.args.analysis.now.lowering in
     let many = ap (length {A = Section}) c.sections-section-items.ensures.sections in
@@ -37,4 +40,4 @@ returns c =
     let within = c.loop-number.auto.number-end in
     let end : c.loop-number.number ≡ length l.sections = omega (arith, many, past, within) in
     subst (λ (ss : List (List Listed)). AreSections x c.args.lists.now (length l.sections) ss) (sym c.from_vec.ensures)
-    (subst (λ n. AreSections x c.args.lists.now n c.loop-number.sections.items) end c.loop-number.invariant)
+    (subst (λ n. AreSections x c.args.lists.now n c.loop-number.sections.items) end c.loop-number.invariant.sections)

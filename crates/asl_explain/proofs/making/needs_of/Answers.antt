@@ -21,6 +21,7 @@ loop-lock-preserved c =
       });
       locks = ones_more c.loop-lock.needs.items c.push.new.self.items d c.in_ok-push.ensures.items c.args.locks.now c.loop-lock.lock-index c.lock-item.result c.loop-lock-test.true
           (c.in_ok-find_need.ensures.lock ∙ c.lock-item.is) c.loop-lock.invariant.locks;
+      known = c.in_ok-find_need.ensures.known;
       same = same_more c.loop-lock.needs.items c.push.new.self.items d c.in_ok-push.ensures.items c.args.locks.now c.loop-lock.lock-index c.lock-item.result c.loop-lock-test.true
           (c.in_ok-find_need.ensures.lock ∙ c.lock-item.is) c.loop-lock.invariant.same;
     }
