@@ -2,6 +2,7 @@
 //! finds: each chain is looked at again before it is kept (`confirm.rt`).
 ghost use Rattle.asl_explain.specs.Analysed.{IsAnalysed};
 
+mod all;
 mod calls;
 mod chains;
 mod gates;
@@ -218,9 +219,7 @@ impl Searcher {
         if !self.keeps_all {
             return self.shown_chain(analysis, number, section, listed, lock);
         }
-        self.begin_at_start(analysis, number, section, lock)?;
-        self.go_on(analysis, usize::MAX)?;
-        self.chains_of(analysis, self.search.accesses.len())
+        self.all_chains(analysis, number, section, lock)
     }
 
     /// Begins with a lock at the start of the section of a number.

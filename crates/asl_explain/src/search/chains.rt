@@ -80,7 +80,7 @@ impl Searcher {
     }
 
     /// How many changes lead up to one, itself among them.
-    fn count_changes(&self, from: Option<usize>) -> usize {
+    pub(crate) fn count_changes(&self, from: Option<usize>) -> usize {
         let mut last = from;
         for count in 0..self.search.changes.len() {
             let Some(change) = self.change_at(last) else {

@@ -7,7 +7,7 @@ use crate::explained_value::{Chain, Step, Why};
 use crate::search::nodes::{Cost, Via};
 use crate::search::point::Point;
 use crate::search::statements::Statements;
-use crate::search::trees::{First, Range, Tree, Turn, overlap};
+use crate::search::trees::{First, Range, Tree, overlap};
 use crate::search::{Access, Searcher, Waiting};
 use asl_code::{Items, Lock};
 use asl_lower::Section;
@@ -91,7 +91,7 @@ impl Searcher {
     }
 
     /// Looks for statements in the section of a number, and notes where it enters bodies.
-    fn look_outside(
+    pub(crate) fn look_outside(
         &mut self,
         analysis: &ExplainAnalysis,
         number: u16,
@@ -109,7 +109,7 @@ impl Searcher {
 
     /// Looks for statements in the bodies that are entered, as far as that is not done and there is room for what is found. Says whether
     /// there was such a body: then the search has to look outside again.
-    fn add_trees(&mut self, analysis: &ExplainAnalysis) -> Result<bool, AllocError>
+    pub(crate) fn add_trees(&mut self, analysis: &ExplainAnalysis) -> Result<bool, AllocError>
         requires { IsAnalysed analysis.now }
     {
         let mut points = Vec::new(self.alloc);
@@ -136,36 +136,28 @@ impl Searcher {
         let number = self.nodes.number(from)?;
         self.wait(from, number, Cost::none(), Via::start(), None)?;
         self.go_on(analysis, usize::MAX)?;
-        let (first, turns) = match self.search.accesses.first().copied() {
-            Some(access) => (Some(access.first()), self.turns(access.last)?),
-            None => (None, Vec::new(self.alloc)),
+        let mut turns = Vec::new(self.alloc);
+        let first = match self.search.accesses.first() {
+            Some(access) => {
+                self.add_turns(access.last, &mut turns)?;
+                Some(access.first())
+            }
+            None => None,
         };
-        let tree = Tree {
+        let mut tree = Tree {
             first,
             turns,
             all: self.statements_from(0)?,
             others: self.statements_from(1)?,
             range: self.range(),
             pcs: self.pcs()?,
+            reached: Vec::new(self.alloc),
+            changes: Vec::new(self.alloc),
         };
-        self.trees.keep(from, tree)
-    }
-
-    /// A change and those before it.
-    fn turns(&self, from: Option<usize>) -> Result<Vec<Turn>, AllocError> {
-        let mut turns = Vec::new(self.alloc);
-        let mut last = from;
-        for _ in 0..self.search.changes.len() {
-            let Some(change) = self.change_at(last) else {
-                break;
-            };
-            turns.push(Turn {
-                point: change.point,
-                why: change.why,
-            })?;
-            last = change.earlier;
+        if self.keeps_all {
+            self.add_reached(&mut tree)?;
         }
-        Ok(turns)
+        self.trees.keep(from, tree)
     }
 
     /// The statements that were found, from a number on.

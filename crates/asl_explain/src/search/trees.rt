@@ -37,6 +37,14 @@ pub(crate) struct Range {
     pub(crate) high: u16,
 }
 
+/// A statement, and where among all the changes on the way to it lie, the last first.
+#[derive(Clone, Copy)]
+pub(crate) struct Reached {
+    pub(crate) point: Point,
+    pub(crate) first: usize,
+    pub(crate) end: usize,
+}
+
 /// What was found from the first point of a lock in a body on.
 #[derive(Drop)]
 pub(crate) struct Tree {
@@ -52,6 +60,9 @@ pub(crate) struct Tree {
     pub(crate) range: Range,
     /// The pcs of all statements.
     pub(crate) pcs: Vec<u16>,
+    /// All statements in the order in which they are found, and the changes on the ways to them, where all chains are kept.
+    pub(crate) reached: Vec<Reached>,
+    pub(crate) changes: Vec<Turn>,
 }
 
 /// What was found, by the first points.
@@ -105,7 +116,8 @@ impl Trees {
     /// Keeps what was found from a point on.
     pub(crate) fn keep(&mut self, from: Point, tree: Tree) -> Result<(), AllocError> {
         let own = OWN_CHANGES.saturating_add(tree.pcs.len() / PCS_OF_CHANGE);
-        let added = tree.turns.len().saturating_add(own);
+        let turns = tree.turns.len().saturating_add(tree.changes.len());
+        let added = turns.saturating_add(own);
         self.changes = self.changes.saturating_add(added);
         let number = self.trees.len();
         self.trees.push(tree)?;
