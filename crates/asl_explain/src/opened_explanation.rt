@@ -10,6 +10,7 @@ use crate::explain_analysis::ExplainAnalysis;
 use crate::explained_source::analysis_of;
 use crate::explained_value::Listed;
 use crate::fault::ExplainFault;
+use crate::known::Known;
 use crate::lists_by_length::by_length;
 use crate::making::explained_section;
 use crate::search::Searcher;
@@ -112,10 +113,12 @@ impl OpenedExplanation {
         let section = self.analysis.lowering.sections()[number];
         let list = self.lists.as_slice()[number].as_slice();
         let number = number as u16;
+        let mut known = Known::new(alloc);
         explained_section(
             alloc,
             &self.analysis,
             &mut search.searcher,
+            &mut known,
             number,
             section,
             list,

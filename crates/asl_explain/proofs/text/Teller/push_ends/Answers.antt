@@ -15,5 +15,5 @@ returns c =
     let between = subst (λ (n : ℕ). string_bytes c.push_left_steps.new.text ≡ string_bytes c.push_steps.new.text ++ left_line n) left c.in_ok-push_left_steps.ensures in
     let long : length (drop last steps) ≤ length steps - last = subst (λ (n : ℕ). n ≤ length steps - last) (sym (length-drop last steps)) (omega arith) in
     let back = subst (λ (ss : List Step). Tells (lines_from f steps last ss) (string_bytes c.push_left_steps.new.text) (string_bytes c.push_steps-2.new.text))
-        (take_all (length steps - last) (drop last steps) long) c.in_ok-push_steps-2.ensures in
+    (take_all (length steps - last) (drop last steps) long) c.in_ok-push_steps-2.ensures in
     tells_then _ _ _ _ _ c.in_ok-push_steps.ensures (words_then _ _ _ _ _ between back)
