@@ -1,9 +1,13 @@
 -- The words of a line, gathered one after the other.
-use Rattle.std.proofs.Common.{◌≡◌, ℕ, zero, suc, ◌+◌, ◌-◌, ◌≤◌, List, [], ◌∷◌, ◌++◌, Option, Some, None, length, take, drop, slice_get, IfSome, Ok, IsUtf8, refl, ap, sym, subst, ◌∙◌, arith}
+use Rattle.std.proofs.Common.{◌≡◌, ℕ, zero, suc, ◌+◌, ◌-◌, ◌≤◌, List, [], ◌∷◌, ◌++◌, Option, Some, None, length, take, drop, slice_get, get_or, map, IfSome, Ok, IsUtf8, refl, ap, sym, subst, ◌∙◌, arith}
 use Rattle.std.proofs.lemmas.Option.{IfSome_then}
+use Rattle.std.proofs.lemmas.List.Elements.{All-map}
+use Rattle.std.proofs.lemmas.Str.{IsUtf8-string_bytes}
+use Rattle.std.specs.Prelude.{string_bytes}
+use Rattle.std.specs.declared.string.String.{String}
 use Rattle.asl.specs.declared.process_words.WordsFault.{WordsFault}
 use Rattle.asl.specs.declared.process_words.WordsFault.TheVariants.{NotText, OutOfMemory}
-use Rattle.asl.specs.CommandLine.{TellsWord, AreGiven, IsWordsFault, IsWordFault}
+use Rattle.asl.specs.CommandLine.{TellsWord, AreGiven, AreTexts, IsWordsFault, IsWordFault}
 
 first_more : {X : Type 0} (xs : List X) (m : ℕ) (x : X) → slice_get xs m ≡ Some x → take m xs ++ x ∷ [] ≡ take (suc m) xs
 first_more [] m x e = cc
@@ -60,7 +64,6 @@ pub words_end : (line : Option (List (List ℕ))) (texts : List (List ℕ)) (num
 words_end None texts number low so_far here = tt
 words_end (Some all) texts number low so_far here = all_told all texts number low so_far here
 
--- some words are given, whether or not the line is known
-pub some_given : (line : Option (List (List ℕ))) → (words : List (List ℕ)) × AreGiven line words
-some_given None = ([], tt)
-some_given (Some all) = (drop 1 all, refl)
+-- the bytes of texts
+pub are_texts : {Z : Type 0} (words : List (String Z)) → AreTexts (map string_bytes words)
+are_texts words = All-map IsUtf8 string_bytes words (λ k d there. IsUtf8-string_bytes (get_or words k d))

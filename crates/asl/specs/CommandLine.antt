@@ -1,5 +1,5 @@
 -- The words that a process was started with, and what is known of each of them (docs/CLI.md, "Status").
-use Rattle.std.specs.Prelude.{◌≡◌, ◌<◌, ℕ, suc, List, Option, None, Some, IfSome, Ok, Err, length, take, drop, slice_get, IsUtf8}
+use Rattle.std.specs.Prelude.{◌≡◌, ◌<◌, ℕ, suc, List, Option, None, Some, IfSome, Ok, Err, length, take, drop, slice_get, All, IsUtf8}
 use Rattle.std.specs.declared.result.Result.{Result}
 use Rattle.std.specs.declared.env.FillError.{FillError}
 use Rattle.std.specs.declared.env.FillError.TheVariants.{NotPresent, TooLong}
@@ -16,6 +16,10 @@ TellsWord words number buffer (Err TooLong) = (word : List ℕ) × (slice_get wo
 -- the words are those after the program's name, where it is known what the process was started with
 abbrev pub AreGiven : Option (List (List ℕ)) → List (List ℕ) → Type 0
 AreGiven line words = IfSome line (λ all. words ≡ drop 1 all)
+
+-- each word is a text in UTF-8
+abbrev pub AreTexts : List (List ℕ) → Type 0
+AreTexts words = All IsUtf8 words
 
 -- the word of a number is no text in UTF-8
 abbrev pub IsNoText : List (List ℕ) → ℕ → Type 0

@@ -1,4 +1,4 @@
-use Rattle.std.proofs.Common.{◌≡◌, sym, subst}
+use Rattle.std.proofs.Common.{sym, subst}
 use Rattle.asl.specs.Process.{EndsProcess}
 use Rattle.asl.proofs.process.run_process.Goals as goal
 
