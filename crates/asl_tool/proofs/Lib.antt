@@ -20,3 +20,4 @@ mod Printing
 mod Found
 mod Checking
 mod Diagnosing
+mod HeapBytes

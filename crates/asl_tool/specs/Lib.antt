@@ -6,6 +6,7 @@ pub mod Step
 pub mod Replay
 pub mod Log
 pub mod Debug
+pub mod Spacing
 pub mod Diagnose
 pub mod Compile
 pub mod C
@@ -17,3 +18,5 @@ pub mod FaultLine
 pub mod Ending
 pub mod Tool
 pub mod Memory
+-- Machinery of the proofs, not of the promise:
+pub mod MadeBytes
