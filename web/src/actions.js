@@ -34,11 +34,13 @@ export const robin = unlessForbidden('robin', () => tell(roundRobin(bench, most(
 export const until = unlessForbidden('until', () => tell(untilBlocked(bench, most())));
 export const random = unlessForbidden('random', () => tell(atRandom(bench, most(), Number(byId('seed').value) || 1)));
 
+// To the next event that fits, or to the last one before the position, one event at a time.
 const seek = (fits, way) => bench.alone(() => {
   const list = events();
   for (let k = bench.position + (way > 0 ? 0 : -2); k >= 0 && k < list.length; k += way) if (fits(list[k])) return bench.show(k + 1);
   note(`There is none ${way > 0 ? 'after' : 'before'} this.`);
 });
+// To the next or the last event with this reply, as blocked.
 export const replies = (reply, way) => () => seek(event => event.reply === reply, way);
 export const sameThread = way => () => { const t = (bench.last || bench.next || {}).thread; seek(event => event.thread === t, way); };
 

@@ -12,6 +12,7 @@ const MOST_COLUMNS = 16;
 // How a mode is filled, as a class of the style; its colour is that of the thread.
 const look = mode => (mode === 'X' || mode === 'SIX' ? 'x' : mode === 'S' ? 's' : 'i');
 
+// Draws the tree of locks: a row for each node, and in it who holds it in which mode, and who waits for it.
 export function drawLocks(bench) {
   const waits = waitingRequests(bench);
   const threads = columns(bench, waits);
