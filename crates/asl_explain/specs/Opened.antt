@@ -9,8 +9,10 @@ use Rattle.asl_explain.specs.declared.explained_value.Explanation.{Explanation}
 use Rattle.asl_explain.specs.declared.explained_value.Listed.{Listed}
 use Rattle.asl_explain.specs.declared.explained_value.Lists.{Lists}
 use Rattle.asl_explain.specs.declared.opened_explanation.OpenedExplanation.{OpenedExplanation}
+use Rattle.asl_explain.specs.declared.opened_explanation.SectionSearch.{SectionSearch}
 use Rattle.asl_explain.specs.Chains.{Read}
 use Rattle.asl_explain.specs.Explained.{AreAllEnded, IsExplanation}
+use Rattle.asl_explain.specs.Known.{AreKnown}
 use Rattle.asl_explain.specs.Analysed.{read, IsAnalysed, AreEachFitted, AreEndedBelow, AreListed, AreSections}
 
 -- how many sections the source has
@@ -33,6 +35,10 @@ AreSectionsOf o so_many sections = AreSections (read o.analysis) o.lists so_many
 pub record IsReady (o : OpenedExplanation) : Type 0 where
   pub analysed : IsAnalysed o.analysis
   pub count : length o.lists ≡ section_count o
+
+-- what the search knows of steps is so
+abbrev pub IsSearchOf : OpenedExplanation → SectionSearch → Type 0
+IsSearchOf o s = AreKnown (read o.analysis) s.known
 
 -- the source is accepted, and of all its sections there is an explanation
 pub record IsOpened (source : List ℕ) (k_limit : ℕ) (o : OpenedExplanation) : Type 0 where

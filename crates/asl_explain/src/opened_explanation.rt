@@ -3,7 +3,7 @@ ghost use Rattle.std.specs.Prelude.{◌≡◌, ◌≤◌, ◌<◌, IfOk, IfErr, 
 ghost use Rattle.asl_emitter.specs.BuiltImage.{AreFitted};
 ghost use Rattle.asl_explain.specs.Explained.{IsRefusedExplanation};
 ghost use Rattle.asl_explain.specs.Analysed.{read, IsAnalysed};
-ghost use Rattle.asl_explain.specs.Opened.{section_count, HasRest, HasEndedBelow, IsReady, IsOpened, IsSectionOf};
+ghost use Rattle.asl_explain.specs.Opened.{section_count, HasRest, HasEndedBelow, IsReady, IsOpened, IsSearchOf, IsSectionOf};
 
 use crate::ended::ended_locks;
 use crate::explain_analysis::ExplainAnalysis;
@@ -25,13 +25,14 @@ pub struct OpenedExplanation {
     lists: Items<Items<Lock>>,
 }
 
-/// What was found in the bodies of functions, for the sections that are still to be explained.
+/// What was found in the bodies of functions, and what is known of steps there, for the sections that are still to be explained.
 #[derive(Drop)]
 pub struct SectionSearch {
     searcher: Searcher,
+    known: Known,
 }
 
-/// Opens the explanation that `explain` makes of a source: with the sections that it hands out there is one.
+/// Opens the explanation of a source. What `section` answers for all numbers, in order, are the sections of an explanation of it.
 ///
 /// # Errors
 ///
@@ -88,10 +89,12 @@ impl OpenedExplanation {
     /// # Errors
     ///
     /// An allocation failed.
-    pub fn search(&self, alloc: Global) -> Result<SectionSearch, AllocError> {
-        Ok(SectionSearch {
-            searcher: Searcher::new(alloc, &self.analysis)?,
-        })
+    pub fn search(&self, alloc: Global) -> Result<SectionSearch, AllocError>
+        ensures { IfOk result (IsSearchOf self.now) }
+    {
+        let searcher = Searcher::new(alloc, &self.analysis)?;
+        let known = Known::new(alloc);
+        Ok(SectionSearch { searcher, known })
     }
 
     /// The locks of the list of the section of this number, explained as `explain` does. What the search finds in the bodies of functions
@@ -108,17 +111,18 @@ impl OpenedExplanation {
     ) -> Result<Items<Listed>, AllocError>
         requires ready { IsReady self.now }
         requires there { number < section_count self.now }
-        ensures { IfOk result (IsSectionOf self.now number) }
+        requires search { IsSearchOf self.now search.old }
+        ensures search { OnOk result (IsSearchOf self.now search.new) }
+        ensures section { IfOk result (IsSectionOf self.now number) }
     {
         let section = self.analysis.lowering.sections()[number];
         let list = self.lists.as_slice()[number].as_slice();
         let number = number as u16;
-        let mut known = Known::new(alloc);
         explained_section(
             alloc,
             &self.analysis,
             &mut search.searcher,
-            &mut known,
+            &mut search.known,
             number,
             section,
             list,

@@ -1,4 +1,4 @@
--- How many bytes one instruction adds to the objects, about (docs/JOURNAL.md, "The debugger").
+-- Machinery of the proofs, not of the promise: how many bytes one instruction adds to the objects, about (src/spacing.rt).
 use Rattle.std.specs.Prelude.{◌+◌, ◌*◌, ℕ, max, List, [], ◌∷◌}
 use Rattle.asl_code.specs.declared.instr.Instr.{Instr}
 use Rattle.asl_code.specs.declared.instr.Instr.TheVariants as instr

@@ -30,7 +30,7 @@ const OBJECTS: u64 = 65_536;
 
 /// How many events lie between two checkpoints: 1,024, or as many as keep the checkpoints within the budget. A machine has no fewer
 /// objects later than earlier; so where a program makes objects, and might make too many, the run is replayed to count them. Where that is
-/// refused, 1,024: the debugger then has no run to show.
+/// refused, 1,024: then the events are none of the program's, or memory ran out.
 pub fn spacing_of<M: Memory>(memory: M, program: &Program, journal: &Journal) -> u32
     ensures least { 1024 ≤ result }
     ensures spacing { IsSpacing (M.refused memory) program.now journal.now.threads journal.now.events result }
@@ -56,7 +56,7 @@ fn spacing_for(events: u64, bytes: u64) -> u32
     (needed as u32).max(LEAST)
 }
 
-/// How many bytes the frames of so many threads take at most, about.
+/// How many bytes the frames of so many threads take at most, about. Whoever has a program has a verified one, which is handed on here.
 fn stack_bytes(program: &Program, threads: u32) -> u64
     requires { threads ≤ 128 }
     ensures bytes { result ≡ stack_bytes program.now threads }

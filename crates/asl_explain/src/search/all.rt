@@ -30,10 +30,13 @@ impl Searcher {
         requires { IsAnalysed analysis.now }
     {
         self.look_outside(analysis, number, section, lock)?;
-        if let Some(only) = self.only_entry() {
+        if self.only_entry().is_some() {
             if self.add_trees(analysis)? {
                 self.look_outside(analysis, number, section, lock)?;
             }
+        }
+        // (anew, since points may have other numbers after what was looked at in between)
+        if let Some(only) = self.only_entry() {
             if let Some(tree) = self.trees.number(only.point) {
                 return self.chains_in(analysis, only, tree);
             }

@@ -23,7 +23,7 @@ struct Placed {
     place: u16,
 }
 
-/// So many calls of a body are passed one by one.
+/// So many calls and returns of a body are passed one by one.
 const FEW_CALLS: usize = 4;
 
 /// What the points of a program are read from.

@@ -63,7 +63,7 @@ pub(crate) enum Compared {
     Nearer(Point),
     /// It costs as much, and is to be taken.
     Before,
-    /// Another is as near.
+    /// Another is at least as near, or the search has looked on from the point.
     Behind,
 }
 

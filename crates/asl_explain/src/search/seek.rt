@@ -1,4 +1,4 @@
-//! The search for the statements of which not all chains are kept: in the section itself, and once for each lock in each body that is called.
+//! The search in the section itself, and once for each lock in each body that it enters; and what is told where not all chains are kept.
 //! Nothing is proved of what it finds: `confirm.rt` looks at each chain again, and `tests/explained` compares what is told.
 ghost use Rattle.asl_explain.specs.Analysed.{IsAnalysed};
 

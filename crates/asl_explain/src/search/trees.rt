@@ -16,6 +16,9 @@ const OWN_CHANGES: usize = 16;
 /// So many pcs of statements take as much as a change.
 const PCS_OF_CHANGE: usize = 4;
 
+/// A statement with its place among the changes takes as much as so many of them.
+const CHANGES_OF_REACHED: usize = 3;
+
 /// A change of the lock on the way from a body's entry to a statement.
 #[derive(Clone, Copy)]
 pub(crate) struct Turn {
@@ -117,7 +120,8 @@ impl Trees {
     pub(crate) fn keep(&mut self, from: Point, tree: Tree) -> Result<(), AllocError> {
         let own = OWN_CHANGES.saturating_add(tree.pcs.len() / PCS_OF_CHANGE);
         let turns = tree.turns.len().saturating_add(tree.changes.len());
-        let added = turns.saturating_add(own);
+        let reached = tree.reached.len().saturating_mul(CHANGES_OF_REACHED);
+        let added = turns.saturating_add(reached).saturating_add(own);
         self.changes = self.changes.saturating_add(added);
         let number = self.trees.len();
         self.trees.push(tree)?;
