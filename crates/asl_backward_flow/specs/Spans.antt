@@ -52,7 +52,7 @@ pub record AreClosed (l : Lowered) (spans : List Span) : Type 0 where
   pub bodies : (g f pc : ℕ) → IsIn l (Body g) f pc → HasBody spans g
   pub few : length spans ≤ 1280
 
--- of the spans of all regions those of so many sections from one on, and then those of all bodies
+-- of the spans of all regions those of so many sections from one on, and behind them others, those of all bodies among them
 pub record IsGroup (l : Lowered) (spans : List Span) (first count : ℕ) (group : List Span) : Type 0 where
   pub closed : AreClosed l group
   pub many : count ≤ length group

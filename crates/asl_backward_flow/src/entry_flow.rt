@@ -67,6 +67,7 @@ fn flow_at_entries(alloc: Global, analysis: &FlowAnalysis) -> Result<Flow, FlowF
 {
     let count = analysis.lowering.sections().len();
     let mut parts = Vec::with_capacity(alloc, count)?;
+    // (the first group is judged without sections, too, since bodies may need too many locks)
     let end = group_end(analysis.spans, 0, count);
     add_group(alloc, analysis, end, &mut parts)?;
     while parts.len() < count {
@@ -76,7 +77,7 @@ fn flow_at_entries(alloc: Global, analysis: &FlowAnalysis) -> Result<Flow, FlowF
     Ok(flow_of(parts))
 }
 
-/// Adds the parts of the sections up to one, where those before the last that is there are there.
+/// Adds the parts of the sections from the first that has none up to `end`.
 fn add_group(
     alloc: Global,
     analysis: &FlowAnalysis,

@@ -6,8 +6,8 @@ use crate::span::Span;
 use asl_lower::Lowering;
 use std::alloc::{AllocError, Global};
 
-/// How many points the sections of a group have at most together, where a section alone has no more: their sets take some 150 MB at the
-/// most. Small programs have one group.
+/// How many points the sections of a group have at most together: their sets take some 150 MB at the most. A section has fewer than
+/// 65,535; small programs have one group.
 const GROUP_POINTS: usize = 262_144;
 
 /// The number of the section at which the group that begins with the section `first` ends, among so many sections.

@@ -14,7 +14,7 @@ use crate::values::is_zero;
 use asl_code::Value;
 use std::alloc::{AllocError, Global};
 
-/// The most frames of a thread.
+/// How deep the stack of calls of a thread may be: the most frames. One more is the fault `Stack`.
 pub const MAX_FRAMES: usize = 256;
 
 /// Goes to this place of the code.

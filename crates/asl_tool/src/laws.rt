@@ -16,8 +16,9 @@ use asl_assembler::laws::texts_have_one_outcome;
 pub use asl_journal::laws::{run_and_bytes_are_one, run_files_have_one_outcome};
 use asl_loader::laws::bytes_have_one_outcome;
 
-/// A command has exactly one outcome for the bytes of an input: one output, or one refusal. Lack of memory is none. `compile`
-/// and `check` are left out: where several regions need too many locks, they name any of them. Of `map`, `explain` and `diagnose` it is not said.
+/// A command has exactly one outcome for the bytes of an input: one output, or one refusal. Lack of memory is none. `compile`, `c`
+/// and `check` are left out: where several regions need too many locks, they name any of them. Of `map`, `explain`, `lists` and `diagnose`
+/// it is not said.
 pub fn commands_have_one_outcome()
     ensures some { (command : Command) (input : List ℕ) → IsSettled command → All (λ b. b < 256) input
         → (outcome : Result (List ℕ) CommandFault) × IsOutcome command input outcome }
