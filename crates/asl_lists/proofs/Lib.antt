@@ -4,3 +4,4 @@ pub mod Made
 pub mod Named
 pub mod Plain
 pub mod Texts
+pub mod Written

@@ -1,9 +1,9 @@
--- The document has no floating-point number, so its text is known.
-use Rattle.std.proofs.Common.{◌≡◌, ℕ, zero, suc, List, [], ◌∷◌, ◌++◌, map, Bool, true, false, ◌||◌, if◌then◌else◌, ◌==◌, slice_get, Option, None, Some, refl, ap, ◌∙◌}
+-- Nothing that is told has a floating-point number, so its text is known.
+use Rattle.std.proofs.Common.{◌≡◌, ℕ, zero, suc, List, [], ◌∷◌, ◌++◌, map, Bool, true, false, ◌||◌, if◌then◌else◌, ◌==◌, slice_get, Option, None, Some, refl}
 use Rattle.std.specs.List.{flat_map}
 use Rattle.serde_json.specs.Data.{Data}
 use Rattle.serde_json.specs.View.{items_of}
-use Rattle.serde_json.specs.Written.{has_float, items_have_float, compact_text}
+use Rattle.serde_json.specs.Written.{has_float, items_have_float}
 use Rattle.asl_code.specs.declared.lock.Base.TheVariants.{Reg, Global}
 use Rattle.asl_code.specs.declared.lock.Lock.{Lock}
 use Rattle.asl_code.specs.declared.lock.Lock.TheVariants as lock
@@ -20,7 +20,7 @@ use Rattle.asl_lock_expr.specs.ClassOf.{class_of}
 use Rattle.asl_warnings.specs.Lacking.{has_no_class, is_reached}
 use Rattle.asl_lists.specs.declared.facts.Facts.{Facts}
 use Rattle.asl_lists.specs.Numbered.{numbered}
-use Rattle.asl_lists.specs.Document.{base_data, lock_base, class_or_null, lock_class, op_data, lock_path, first_data, statement_data, need_data, lock_data, global_data, area_list, site_data, class_data, classes_from, function_data, section_area, section_data, unreached_data, classless_data, warnings_data, document_data}
+use Rattle.asl_lists.specs.Document.{base_data, lock_base, class_or_null, lock_class, op_data, lock_path, first_data, statement_data, need_data, lock_data, global_data, area_list, site_data, class_data, classes_from, function_data, section_at, unreached_data, classless_data, warnings_data}
 
 -- none of these has one
 abbrev pub ArePlain : List Data → Type 0
@@ -107,13 +107,16 @@ class_entry_plain : (f : Facts) (class : ℕ) → has_float (class_data f class)
 class_entry_plain f class =
     rw (numbered_plain (global_data f class) (λ n of. chosen (of == class) _ refl) 0 f.map.global_classes.items, numbered_plain (site_data f class) (λ n of. chosen (of == class) _ (area_plain f (slice_get f.map.sites.items n))) 0 f.map.site_classes.items) refl
 
-classes_plain : (f : Facts) (first many : ℕ) → ArePlain (classes_from f first many)
+pub classes_plain : (f : Facts) (first many : ℕ) → ArePlain (classes_from f first many)
 unfolding classes_from
 classes_plain f first zero = refl
 classes_plain f first (suc many) = joined (class_data f first ∷ []) (classes_from f (suc first) many) (one (class_data f first) (class_entry_plain f first)) (classes_plain f (suc first) many)
 
-section_plain : (f : Facts) (n : ℕ) (list : List Listed) → ArePlain (section_data f n list)
-section_plain f n list = rw (map_plain (lock_data f (section_area f n).function) (lock_plain f (section_area f n).function) list) refl
+pub functions_plain : (f : Facts) (functions : List Named) → ArePlain (numbered (function_data f) 0 functions)
+functions_plain f functions = numbered_plain (function_data f) (λ n x. refl) 0 functions
+
+pub section_plain : (f : Facts) (a : Area) (list : List Listed) → has_float (section_at f a list) ≡ false
+section_plain f a list = rw (map_plain (lock_data f a.function) (lock_plain f a.function) list) refl
 
 unreached_plain : (f : Facts) (n : ℕ) (x : Named) → ArePlain (unreached_data f n x)
 unreached_plain f n x = otherwise (is_reached f.map n) _ refl
@@ -121,15 +124,7 @@ unreached_plain f n x = otherwise (is_reached f.map n) _ refl
 classless_plain : (f : Facts) (pc : ℕ) (i : Instr) → ArePlain (classless_data f pc i)
 classless_plain f pc i = chosen (has_no_class f.map f.lowering f.classes pc i) _ refl
 
-warnings_plain : (f : Facts) → ArePlain (warnings_data f)
+pub warnings_plain : (f : Facts) → ArePlain (warnings_data f)
 warnings_plain f =
     joined (numbered (unreached_data f) 0 f.map.functions.items) (numbered (classless_data f) 0 f.lowering.code)
     (numbered_plain (unreached_data f) (unreached_plain f) 0 f.map.functions.items) (numbered_plain (classless_data f) (classless_plain f) 0 f.lowering.code)
-
-pub document_plain : (f : Facts) (k : ℕ) (added : List ℕ) (sections : List (List Listed)) → has_float (document_data f k added sections) ≡ false
-document_plain f k added sections =
-    rw (classes_plain f 0 f.map.classes, numbered_plain (function_data f) (λ n x. refl) 0 f.map.functions.items, numbered_plain (section_data f) (section_plain f) 0 sections, warnings_plain f) refl
-
--- so its text, and a line feed, are known
-pub told : (d e : Data) (s t : List ℕ) → e ≡ d → has_float d ≡ false → (has_float e ≡ false → s ≡ compact_text e) → t ≡ s ++ 10 ∷ [] → t ≡ compact_text d ++ 10 ∷ []
-told d e s t same plain is more = more ∙ ap (λ (l : List ℕ). l ++ 10 ∷ []) (is (ap has_float same ∙ plain) ∙ ap compact_text same)

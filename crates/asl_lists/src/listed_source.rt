@@ -1,6 +1,6 @@
 //! From a source to the document of its lists.
 ghost use Rattle.std.specs.Prelude.{◌≤◌, map, IfOk, IfErr, IfSome, string_bytes};
-ghost use Rattle.asl_explain.specs.Explained.{IsExplanation};
+ghost use Rattle.asl_explain.specs.Opened.{IsOpened};
 ghost use Rattle.asl_lists.specs.Listed.{AreFacts, HasEntries, HasRefusedEntries, IsDocument, IsListed, IsRefusedLists, IsRefusedWhole, IsToldFor};
 
 use crate::document::document_text;
@@ -40,12 +40,11 @@ fn facts_of(alloc: Global, source: &[u8]) -> Result<Facts, AllocError>
 
 /// The document of an explained source, the last part of which calls its entries.
 fn told(alloc: Global, source: &[u8], found: &Found, driver: &str) -> Result<String, AllocError>
-    requires { IsExplanation source.now found.now.k found.now.explanation }
+    requires { IsOpened source.now found.now.k found.now.opened }
     ensures { IfOk result (λ text. IsDocument source.now found.now.k driver.now (string_bytes text)) }
 {
     let facts = facts_of(alloc, source)?;
-    let sections = found.explanation.sections.as_slice();
-    document_text(alloc, &facts, found.k, driver, sections)
+    document_text(alloc, &facts, found.k, driver, &found.opened)
 }
 
 /// The document of a source, the last part of which calls its entries.

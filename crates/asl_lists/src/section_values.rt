@@ -1,16 +1,14 @@
 //! The sections with their lists, as data.
-ghost use Rattle.std.specs.Prelude.{◌≡◌, ◌++◌, map, IfOk, OnOk};
+ghost use Rattle.std.specs.Prelude.{◌≡◌, IfOk};
 ghost use Rattle.std.specs.List.{list_any};
 ghost use Rattle.asl_code.specs.Locks.{effect_of};
 ghost use Rattle.serde_json.specs.View.{view};
-ghost use Rattle.asl_lists.specs.Numbered.{numbered};
-ghost use Rattle.asl_lists.specs.Document.{is_star, reads_cell, is_write, section_area, section_at, section_data};
+ghost use Rattle.asl_lists.specs.Document.{is_star, reads_cell, is_write, section_area, section_at};
 
 use crate::facts::Facts;
 use crate::lock_values::list_values;
 use crate::place_values::{function_words, line_of};
-use crate::values::add;
-use asl_code::{Effect, Items, Lock, Op};
+use asl_code::{Effect, Lock, Op};
 use asl_explain::Listed;
 use asl_map::Area;
 use serde_json::{Value, json};
@@ -69,7 +67,7 @@ fn writes(list: &[Listed]) -> bool
 }
 
 /// Where a section stands.
-fn section_area(facts: &Facts, section: usize) -> Area
+pub fn section_area(facts: &Facts, section: usize) -> Area
     ensures { result ≡ section_area facts.now section }
 {
     facts.map.sections.get(section).copied().unwrap_or(Area {
@@ -80,7 +78,7 @@ fn section_area(facts: &Facts, section: usize) -> Area
 }
 
 /// A section at this place, with its list.
-fn section_value(
+pub fn section_value(
     alloc: Global,
     facts: &Facts,
     area: &Area,
@@ -99,34 +97,4 @@ fn section_value(
         "reads_cells": reads_cells(list),
         "writes": writes(list),
     })
-}
-
-/// Adds a section with its list.
-fn push_section(
-    alloc: Global,
-    facts: &Facts,
-    values: &mut Vec<Value>,
-    section: usize,
-    list: &[Listed],
-) -> Result<(), AllocError>
-    ensures { OnOk result (map view values.new.items ≡ map view values.old.items ++ section_data facts.now section list.now) }
-{
-    let area = section_area(facts, section);
-    let value = section_value(alloc, facts, &area, list)?;
-    add(values, value)
-}
-
-/// The sections with these lists, from the first on.
-pub fn section_values(
-    alloc: Global,
-    facts: &Facts,
-    sections: &[Items<Listed>],
-) -> Result<Vec<Value>, AllocError>
-    ensures { IfOk result (λ values. map view values.items ≡ numbered (section_data facts.now) 0 sections.now) }
-{
-    let mut values = Vec::new(alloc);
-    for (number, list) in sections.iter().enumerate() {
-        push_section(alloc, facts, &mut values, number, list.as_slice())?;
-    }
-    Ok(values)
 }
