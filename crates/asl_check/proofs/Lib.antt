@@ -1,4 +1,5 @@
 pub mod Lists
+pub mod Needs
 pub mod Covering
 pub mod Judging
 pub mod Reading

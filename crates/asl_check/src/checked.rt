@@ -48,6 +48,7 @@ pub fn check(alloc: Global, ast: &Ast<'_>, program: &Program, k: u32) -> Result<
         return Err(CheckFault::OtherCode(difference));
     }
     let lists = program.lists();
-    cover(&analysis.lowering, &analysis.classes, &analysis.flow, lists)?;
+    let needs = analysis.needs.as_slice();
+    cover(&analysis.lowering, &analysis.classes, needs, lists)?;
     guard(&analysis.lowering, &analysis.classes, lists)
 }

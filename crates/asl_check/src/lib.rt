@@ -9,6 +9,7 @@ mod code_difference;
 mod coded;
 mod covered;
 mod covers;
+mod entry_needs;
 mod fault;
 mod lacking;
 mod lacks;

@@ -49,16 +49,11 @@ pub fn missing(
         return Err(CheckFault::OtherCode(difference));
     }
     let lists = program.lists();
-    match judge(&analysis.lowering, &analysis.classes, &analysis.flow, lists) {
+    let needs = analysis.needs.as_slice();
+    match judge(&analysis.lowering, &analysis.classes, needs, lists) {
         Ok(()) => Ok(Vec::new(alloc)),
         Err(_first) => {
-            match lacks(
-                alloc,
-                &analysis.lowering,
-                &analysis.classes,
-                &analysis.flow,
-                lists,
-            ) {
+            match lacks(alloc, &analysis.lowering, &analysis.classes, needs, lists) {
                 Ok(faults) => Ok(faults),
                 Err(_) => Err(CheckFault::Infer(InferFault::OutOfMemory)),
             }
