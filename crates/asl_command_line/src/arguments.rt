@@ -103,7 +103,8 @@ fn explain_command<'a>(alloc: Global) -> Result<Command<'a>, AllocError>
     let command = named(alloc, "explain", "asl explain")?;
     let command = with_argument(command, value(alloc, "k", "K"))?;
     let command = with_argument(command, flag(alloc, "all"))?;
-    with_argument(command, flag(alloc, "classes"))
+    let command = with_argument(command, flag(alloc, "classes"))?;
+    with_argument(command, values(alloc, "entry", "F"))
 }
 
 /// What `asl lists` takes.
@@ -122,7 +123,8 @@ fn diagnose_command<'a>(alloc: Global) -> Result<Command<'a>, AllocError>
     let command = named(alloc, "diagnose", "asl diagnose")?;
     let command = with_argument(command, value(alloc, "k", "K"))?;
     let command = with_argument(command, flag(alloc, "asm"))?;
-    with_argument(command, flag(alloc, "all"))
+    let command = with_argument(command, flag(alloc, "all"))?;
+    with_argument(command, values(alloc, "entry", "F"))
 }
 
 /// What `asl c` takes.

@@ -7,6 +7,8 @@ pub mod Replay
 pub mod Log
 pub mod Debug
 pub mod Spacing
+pub mod Added
+pub mod Explain
 pub mod Diagnose
 pub mod Compile
 pub mod C

@@ -2,6 +2,7 @@
 ghost use Rattle.std.specs.Prelude.{IfOk, IfErr};
 ghost use Rattle.asl_tool.specs.Command.{IsOutput, IsRunFile, IsRefusedCommand};
 
+mod added;
 mod asm;
 mod c;
 mod c_names;
@@ -48,7 +49,8 @@ pub fn output_of(alloc: Global, command: &Command, input: &[u8]) -> Result<Vec<u
             k_limit,
             all,
             classes,
-        } => explain::explained_source(alloc, k_limit, *all, *classes, input),
+            entries,
+        } => explain::explained_source(alloc, k_limit, *all, *classes, entries.as_slice(), input),
         Command::Lists { k_limit, entries } => lists::listed_source(
             alloc,
             k_limit,
@@ -59,7 +61,8 @@ pub fn output_of(alloc: Global, command: &Command, input: &[u8]) -> Result<Vec<u
             assembly,
             k_limit,
             all,
-        } => diagnose::diagnosed_input(alloc, *assembly, k_limit, *all, input),
+            entries,
+        } => diagnose::diagnosed_input(alloc, *assembly, k_limit, *all, entries.as_slice(), input),
         Command::PrintC {
             k_limit,
             checks,
