@@ -12,6 +12,9 @@ mod Rowing
 mod Sectionwise
 mod Walking
 mod Reasons
+mod Seeking
+mod SameNeed
+mod CoveredNeed
 mod Lengthening
 mod Short
 pub mod Opening

@@ -9,6 +9,7 @@ pub mod Gaps
 pub mod Known
 pub mod Lengths
 pub mod Opened
+pub mod Sought
 pub mod Telling
 pub mod TellingChains
 pub mod TellingLists

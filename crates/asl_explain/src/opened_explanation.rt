@@ -126,6 +126,7 @@ impl OpenedExplanation {
             number,
             section,
             list,
+            true,
         )
     }
 }
