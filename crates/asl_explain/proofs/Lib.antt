@@ -1,4 +1,5 @@
 mod Ends
+mod Keeping
 mod Under
 mod Confirming
 mod Analysing

@@ -13,8 +13,8 @@ pub(crate) struct Gate {
 
 /// What is known of a body: of which lock, and its gate, if the body needs the lock.
 #[derive(Clone, Copy)]
-struct Known {
-    turn: u32,
+struct NotedGate {
+    lock_number: u32,
     gate: Option<Gate>,
 }
 
@@ -23,8 +23,8 @@ struct Known {
 pub(crate) struct Gates {
     lock: Option<Lock>,
     /// How many locks there were; what is known of a body may be of an earlier one.
-    turn: u32,
-    bodies: Vec<Known>,
+    lock_number: u32,
+    bodies: Vec<NotedGate>,
 }
 
 impl Gates {
@@ -32,27 +32,27 @@ impl Gates {
     pub(crate) fn new(alloc: Global) -> Gates {
         Gates {
             lock: None,
-            turn: 0,
+            lock_number: 0,
             bodies: Vec::new(alloc),
         }
     }
 
     /// From now on the gates are those of this lock.
-    pub(crate) fn turn_to(&mut self, lock: &Lock) -> Result<(), AllocError> {
+    pub(crate) fn begin_lock(&mut self, lock: &Lock) -> Result<(), AllocError> {
         if let Some(own) = &self.lock {
             if own == lock {
                 return Ok(());
             }
         }
         self.lock = Some(lock.clone()?);
-        self.turn = self.turn.saturating_add(1);
+        self.lock_number = self.lock_number.saturating_add(1);
         Ok(())
     }
 
     /// What is known of the body at a place: its gate, or that it has none.
     pub(crate) fn gate(&self, place: u16) -> Option<Option<Gate>> {
         match self.bodies.get(usize::from(place)) {
-            Some(known) if known.turn == self.turn => Some(known.gate),
+            Some(known) if known.lock_number == self.lock_number => Some(known.gate),
             _ => None,
         }
     }
@@ -60,14 +60,14 @@ impl Gates {
     /// Notes the gate of the body at a place.
     pub(crate) fn note(&mut self, place: u16, gate: Option<Gate>) -> Result<(), AllocError> {
         for _ in self.bodies.len()..usize::from(place) + 1 {
-            self.bodies.push(Known {
-                turn: 0,
+            self.bodies.push(NotedGate {
+                lock_number: 0,
                 gate: None,
             })?;
         }
         if let Some(known) = self.bodies.get_mut(usize::from(place)) {
-            *known = Known {
-                turn: self.turn,
+            *known = NotedGate {
+                lock_number: self.lock_number,
                 gate,
             };
         }
