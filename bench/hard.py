@@ -162,9 +162,8 @@ def clique(functions, callees):
 
 
 def tired(sections, copies, first, second):
-    """Sections that call one body, in which each of first times second locks, at most 256, changes its register so many times: each chain of each
-    section has all these changes. Where there are more than four million of them, not all that is found in the body is kept, and the rest is sought
-    anew for each section."""
+    """Sections that call one body, in which each of first times second locks, at most 256, changes its register so many times: what is found in the
+    body is more than is kept, so the rest is sought anew for each section."""
     loads = one_of("q", [f"&a[{n}]" for n in range(first)]) + "y=*q;" + one_of("z", [f"&y[{n}]" for n in range(second)]) + "x=*z;"
     body = "fn f(a){t=0;" + "b=a;a=b;" * (copies // 2) + loads + "return t;}"
     return body + "fn main(t){p=new 255;atomic{*p=p;}" + "atomic{x=f(p);}" * sections + "return t;}"

@@ -1,5 +1,5 @@
 """What `asl explain` tells below locks on classes, and of what a text may lack: by `asl map`, by `asl explain --classes`, and for pointers
-that point to no class by tests/reference, which shares no code with the program. And what `--entry` adds to a source."""
+that point to no class by tests/reference, which shares no code with the program."""
 import re
 
 from reference.analysis import Merging
@@ -13,22 +13,6 @@ PAIR = re.compile(r"  +.* are one class, since$")
 GROUND = re.compile(r"  +(.* point to one class, since|and more such reasons)$")
 AGAIN = re.compile(r"    why one class: see section \d+$")
 WITHOUT = re.compile(r"    without line \d+ they would be two$")
-
-
-def driver(entries):
-    """What is added to a source with these entries: of each the name of a function and how many parameters that has."""
-    text = "\n"
-    for number, (name, count) in enumerate(entries):
-        made = "abcd"[:count]
-        text += f"fn _entry{number}() {{\n" + "".join(f"  {local} = new 255;\n" for local in made)
-        text += f"  r = {name}({', '.join(made)});\n  z = 0;\n  return z;\n}}\n"
-    calls = "".join(f"  if t {{ r = _entry{number}(); }}\n" for number in range(len(entries)))
-    return f"{text}fn main(t) {{\n  r = t;\n{calls}  return r;\n}}\n"
-
-
-def added(source):
-    """From which line on a text is not this source, which stands before it."""
-    return f"from line {source.count(chr(10)) + 2} on stands what was added to call the entries"
 
 
 def renamed(draw, text, locals_):

@@ -117,16 +117,6 @@ bare_of_free c f list given free bare reduced h = record {
       in_order bare stand.1 (λ b o. own b (inr o)),
     )
 
--- what is said of a set is said of one with the same locks
-pub bare_same : (c : Classed) (f : ℕ) (list : List Lock) (given other : Locks) (bare : List Lock) → ((a : Lock) → given a ↔ other a) → AreBareNeeds c f list given bare → AreBareNeeds c f list other bare
-bare_same c f list given other bare same h = record {
-  kept = λ a. (
-    λ o. (let k = (h.kept a).0 o in (((same a).0 k.0.0, (λ b g. k.0.1 b ((same b).1 g))), k.1)),
-    λ k. (h.kept a).1 (((same a).1 k.0.0, (λ b g. k.0.1 b ((same b).0 g))), k.1),
-  );
-  order = h.order;
-}
-
 -- ---- a set of locks that are found by their hash
 
 one_found : (a : Lock) (xs : List Lock) → list_any (lock_test.ghosts.eq a) xs ≡ true → IsOne xs a

@@ -1,5 +1,4 @@
 pub mod Lists
-pub mod Needs
 pub mod Covering
 pub mod Judging
 pub mod Reading

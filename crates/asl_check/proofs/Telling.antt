@@ -1,24 +1,25 @@
 -- All that the lists of a program lack, as the clauses of `missing` say it.
-use Rattle.std.proofs.Common.{◌≡◌, ◌↔◌, ℕ, List, [], ◌∷◌, length, refl, ap, sym, ◌∙◌, subst, inl}
+use Rattle.std.proofs.Common.{◌≡◌, ◌↔◌, ℕ, suc, List, [], ◌∷◌, length, refl, ap, sym, ◌∙◌, subst, inl}
 use Rattle.asl_code.specs.declared.image.Image.{Image}
 use Rattle.asl_code.specs.declared.lock.Lock.{Lock}
 use Rattle.asl_syntax.specs.Tree.{Item}
 use Rattle.asl_lower.specs.Lowered.{Lowered, IsLowering}
+use Rattle.asl_lower.specs.Regions.{Inside}
 use Rattle.asl_points_to.specs.Classes.{Classed, AreClasses}
-use Rattle.asl_backward_flow.specs.Needed.{Needed}
+use Rattle.asl_backward_flow.specs.Needed.{RegionNeeds, Needed, IsTold}
+use Rattle.asl_backward_flow.specs.Flows.{IsFlow}
 use Rattle.asl_emitter.specs.Inferred.{Analysis}
 use Rattle.asl_emitter.specs.Refused.{IsAccepted}
 use Rattle.asl_check.specs.declared.fault.CheckFault.{CheckFault}
 use Rattle.asl_check.specs.declared.fault.CheckFault.TheVariants.{Infer, OtherCode, Uncovered, Unguarded}
-use Rattle.asl_check.specs.Checked.{IsCodeOf, AreGuarded, FirstListsCover}
-use Rattle.asl_check.specs.KnownLists.{AreNeeds, InNeeds, IsFirstLack}
+use Rattle.asl_check.specs.Checked.{IsCodeOf, AreGuarded}
+use Rattle.asl_check.specs.KnownLists.{AreCovered, IsFirstLack}
 use Rattle.asl_check.specs.Refused.{IsChecked, IsRefusedLists, IsOfProgram, IsOutOfMemory}
 use Rattle.asl_check.specs.Missing.{LacksNeeded, NamesLack, AreAllLacks, LacksAll, IsBeforeLists}
 use Rattle.asl_check.proofs.AllLacks.{none_lacking, first_lacking, first_open}
 use Rattle.asl_check.proofs.Complete.{checked_only}
 use Rattle.asl_check.proofs.Concluding.{is_checked, is_uncovered, is_unguarded}
 use Rattle.asl_check.proofs.Covering.{over_first, bare_lacking}
-use Rattle.asl_check.proofs.Needs.{needs_needed}
 use Rattle.asl_check.proofs.Outcomes.{one_refusal}
 
 -- the first of lists that are the same is the same
@@ -28,20 +29,20 @@ same_head f g fs gs e = cc
 not_nil : (f : CheckFault) (fs : List CheckFault) → f ∷ fs ≡ [] → ⊥
 not_nil f fs e = cc
 
-module _ (is : List Item) (l : Lowered) (c : Classed) (k_limit : ℕ) (needs : List (List Lock)) (lowers : IsLowering is l) (are : AreClasses l c) (known : AreNeeds l c k_limit needs) (accepted : IsAccepted is k_limit) where
+module _ (is : List Item) (l : Lowered) (c : Classed) (k_limit : ℕ) (parts : List RegionNeeds) (lowers : IsLowering is l) (are : AreClasses l c) (flow : IsFlow l c k_limit parts) (accepted : IsAccepted is k_limit) where
   abbrev analysis : Analysis is
-  analysis = record { program = record { lowering = l; lowers = lowers; classes = c; are_classes = are }; stores = known.stores; tells = known.written }
+  analysis = record { program = record { lowering = l; lowers = lowers; classes = c; are_classes = are }; stores = flow.stores; tells = flow.written }
 
-  -- what is at hand is what is needed
-  lacks_needed : (lists : List (List Lock)) (n : ℕ) (a : Lock) → LacksNeeded l c (InNeeds needs) lists n a ↔ LacksNeeded l c (Needed l c known.stores k_limit) lists n a
-  lacks_needed lists n a = (
+  -- what is told is what is needed
+  needs_told : (lists : List (List Lock)) (n : ℕ) (a : Lock) → LacksNeeded l c (IsTold parts) lists n a ↔ LacksNeeded l c (Needed l c flow.stores k_limit) lists n a
+  needs_told lists n a = (
     λ r. record {
       is = r.is;
       in_table = r.in_table;
       list = r.list;
       listed = r.listed;
-      needed = (needs_needed l c k_limit needs known n r.is r.in_table a).0 r.needed;
-      free = λ b needed. r.free b ((needs_needed l c k_limit needs known n r.is r.in_table b).1 needed);
+      needed = (flow.tells (Inside n) (suc r.is.acquire) a).0 r.needed;
+      free = λ b needed. r.free b ((flow.tells (Inside n) (suc r.is.acquire) b).1 needed);
       bare = r.bare;
     },
     λ r. record {
@@ -49,71 +50,71 @@ module _ (is : List Item) (l : Lowered) (c : Classed) (k_limit : ℕ) (needs : L
       in_table = r.in_table;
       list = r.list;
       listed = r.listed;
-      needed = (needs_needed l c k_limit needs known n r.is r.in_table a).1 r.needed;
-      free = λ b own. r.free b ((needs_needed l c k_limit needs known n r.is r.in_table b).0 own);
+      needed = (flow.tells (Inside n) (suc r.is.acquire) a).1 r.needed;
+      free = λ b told. r.free b ((flow.tells (Inside n) (suc r.is.acquire) b).0 told);
       bare = r.bare;
     },
   )
 
-  names_needed : (lists : List (List Lock)) (f : CheckFault) → NamesLack l c (InNeeds needs) lists f ↔ NamesLack l c (Needed l c known.stores k_limit) lists f
-  names_needed lists (Uncovered n a) = lacks_needed lists n a
-  names_needed lists (Unguarded n a) = ((λ r. r), (λ r. r))
-  names_needed lists (Infer fault) = ((λ r. r), (λ r. r))
-  names_needed lists (OtherCode pc) = ((λ r. r), (λ r. r))
+  names_told : (lists : List (List Lock)) (f : CheckFault) → NamesLack l c (IsTold parts) lists f ↔ NamesLack l c (Needed l c flow.stores k_limit) lists f
+  names_told lists (Uncovered n a) = needs_told lists n a
+  names_told lists (Unguarded n a) = ((λ r. r), (λ r. r))
+  names_told lists (Infer fault) = ((λ r. r), (λ r. r))
+  names_told lists (OtherCode pc) = ((λ r. r), (λ r. r))
 
-  all_needed : (lists : List (List Lock)) (faults : List CheckFault) → AreAllLacks l c (InNeeds needs) lists faults → AreAllLacks l c (Needed l c known.stores k_limit) lists faults
+  all_needed : (lists : List (List Lock)) (faults : List CheckFault) → AreAllLacks l c (IsTold parts) lists faults → AreAllLacks l c (Needed l c flow.stores k_limit) lists faults
   all_needed lists faults h =
-      record { exact = λ f. ((λ o. (names_needed lists f).0 ((h.exact f).0 o)), (λ names. (h.exact f).1 ((names_needed lists f).1 names))); order = h.order }
+      record { exact = λ f. ((λ o. (names_told lists f).0 ((h.exact f).0 o)), (λ names. (h.exact f).1 ((names_told lists f).1 names))); order = h.order }
 
   module _ (image : Image) (code : IsCodeOf l c image) where
-    pub lacks_all : (faults : List CheckFault) → AreAllLacks l c (InNeeds needs) image.lists faults → LacksAll is k_limit image faults
+    pub lacks_all : (faults : List CheckFault) → AreAllLacks l c (IsTold parts) image.lists faults → LacksAll is k_limit image faults
     lacks_all faults h = record { of_tree = record { accepted = accepted; analysis = analysis; code = code }; all = all_needed image.lists faults h }
 
-    pub lacks_none : FirstListsCover l c (InNeeds needs) image.lists (length l.sections) → AreGuarded l c image.lists (length l.sections) → LacksAll is k_limit image []
+    pub lacks_none : AreCovered l c parts image.lists (length l.sections) → AreGuarded l c image.lists (length l.sections) → LacksAll is k_limit image []
     lacks_none covered guarded = record {
       of_tree = record { accepted = accepted; analysis = analysis; code = code };
-      all = none_lacking l c (Needed l c known.stores k_limit) image.lists (over_first l c k_limit needs known image.lists (length l.sections) covered) guarded;
+      all = none_lacking l c (Needed l c flow.stores k_limit) image.lists (over_first l c flow.stores k_limit parts image.lists (length l.sections) flow.tells covered) guarded;
     }
 
-    pub none_iff : (faults : List CheckFault) → faults ≡ [] → FirstListsCover l c (InNeeds needs) image.lists (length l.sections) → AreGuarded l c image.lists (length l.sections) → (faults ≡ []) ↔ IsChecked is k_limit image
+    pub none_iff : (faults : List CheckFault) → faults ≡ [] → AreCovered l c parts image.lists (length l.sections) → AreGuarded l c image.lists (length l.sections) → (faults ≡ []) ↔ IsChecked is k_limit image
     none_iff faults e covered guarded = (
-      λ _. is_checked is l c k_limit needs lowers are known accepted image code covered guarded,
+      λ _. is_checked is l c k_limit parts lowers are flow accepted image code covered guarded,
       λ _. e,
     )
 
     -- the first that is wrong is a refusal, and want of memory it is not
-    refused_first : (fault : CheckFault) → IsFirstLack l c needs image.lists fault → IsRefusedLists is k_limit image fault
-    refused_first (Uncovered n a) h = is_uncovered is l c k_limit needs lowers are known accepted image code (Uncovered n a) h
-    refused_first (Unguarded n a) h = is_unguarded is l c k_limit needs lowers are known accepted image code h.0 (Unguarded n a) h.1
+    refused_first : (fault : CheckFault) → IsFirstLack l c parts image.lists fault → IsRefusedLists is k_limit image fault
+    refused_first (Uncovered n a) h = is_uncovered is l c k_limit parts lowers are flow accepted image code (Uncovered n a) h
+    refused_first (Unguarded n a) h = is_unguarded is l c k_limit parts lowers are flow accepted image code h.0 (Unguarded n a) h.1
     refused_first (Infer fault) h = absurd h
     refused_first (OtherCode pc) h = absurd h
 
-    not_memory : (fault : CheckFault) → IsFirstLack l c needs image.lists fault → IsOutOfMemory fault → ⊥
+    not_memory : (fault : CheckFault) → IsFirstLack l c parts image.lists fault → IsOutOfMemory fault → ⊥
     not_memory (Uncovered n a) h u = u
     not_memory (Unguarded n a) h u = u
     not_memory (Infer fault) h u = h
     not_memory (OtherCode pc) h u = h
 
     -- it stands first among all that lack
-    stands_first : (fault : CheckFault) → IsFirstLack l c needs image.lists fault → (faults : List CheckFault) → AreAllLacks l c (InNeeds needs) image.lists faults → (rest : List CheckFault) × (faults ≡ fault ∷ rest)
+    stands_first : (fault : CheckFault) → IsFirstLack l c parts image.lists fault → (faults : List CheckFault) → AreAllLacks l c (IsTold parts) image.lists faults → (rest : List CheckFault) × (faults ≡ fault ∷ rest)
     stands_first (Uncovered n a) h faults all =
-        first_lacking l c (Needed l c known.stores k_limit) image.lists faults (all_needed image.lists faults all) n a (bare_lacking l c k_limit needs known image.lists n a h)
+        first_lacking l c (Needed l c flow.stores k_limit) image.lists faults (all_needed image.lists faults all) n a (bare_lacking l c flow.stores k_limit parts image.lists n a flow.tells h)
     stands_first (Unguarded n a) h faults all =
-        first_open l c (Needed l c known.stores k_limit) image.lists faults (all_needed image.lists faults all) n a
-        (over_first l c k_limit needs known image.lists (length l.sections) h.0) h.1
+        first_open l c (Needed l c flow.stores k_limit) image.lists faults (all_needed image.lists faults all) n a
+        (over_first l c flow.stores k_limit parts image.lists (length l.sections) flow.tells h.0) h.1
     stands_first (Infer fault) h faults all = absurd h
     stands_first (OtherCode pc) h faults all = absurd h
 
-    pub first_refused : (fault : CheckFault) → IsFirstLack l c needs image.lists fault → (faults : List CheckFault) → AreAllLacks l c (InNeeds needs) image.lists faults →
+    pub first_refused : (fault : CheckFault) → IsFirstLack l c parts image.lists fault → (faults : List CheckFault) → AreAllLacks l c (IsTold parts) image.lists faults →
         (first : CheckFault) (rest : List CheckFault) → faults ≡ first ∷ rest → IsRefusedLists is k_limit image first
     first_refused fault h faults all first rest e =
         let own = stands_first fault h faults all in
         subst (IsRefusedLists is k_limit image) (same_head fault first own.0 rest (sym own.1 ∙ e)) (refused_first fault h)
 
-    pub some_lack : (fault : CheckFault) → IsFirstLack l c needs image.lists fault → (faults : List CheckFault) → AreAllLacks l c (InNeeds needs) image.lists faults → faults ≡ [] → ⊥
+    pub some_lack : (fault : CheckFault) → IsFirstLack l c parts image.lists fault → (faults : List CheckFault) → AreAllLacks l c (IsTold parts) image.lists faults → faults ≡ [] → ⊥
     some_lack fault h faults all none = let own = stands_first fault h faults all in not_nil fault own.0 (sym own.1 ∙ none)
 
-    pub some_iff : (fault : CheckFault) → IsFirstLack l c needs image.lists fault → (faults : List CheckFault) → AreAllLacks l c (InNeeds needs) image.lists faults → (faults ≡ []) ↔ IsChecked is k_limit image
+    pub some_iff : (fault : CheckFault) → IsFirstLack l c parts image.lists fault → (faults : List CheckFault) → AreAllLacks l c (IsTold parts) image.lists faults → (faults ≡ []) ↔ IsChecked is k_limit image
     some_iff fault h faults all =
         let own = stands_first fault h faults all in (
           λ e. absurd (not_nil fault own.0 (sym own.1 ∙ e)),

@@ -1,60 +1,67 @@
--- Machinery of the proofs, not of the promise: what is known of lists while they are judged (src/check_analysis.rt, src/covered.rt, src/lacks.rt, src/covers.rt, src/bare_locks.rt).
-use Rattle.std.specs.Prelude.{◌≡◌, ◌<◌, ◌↔◌, ◌⊎◌, ◌+◌, ◌++◌, ℕ, suc, Bool, List, [], ◌∷◌, Option, None, Some, length, slice_get}
+-- Machinery of the proofs, not of the promise: what is known of lists by the parts of a flow (src/covered.rt, src/lacking.rt, src/covers.rt, src/bare_locks.rt).
+use Rattle.std.specs.Prelude.{◌≡◌, ◌<◌, ◌↔◌, ◌⊎◌, ◌+◌, ◌++◌, ℕ, List, [], ◌∷◌, Option, None, Some, length, slice_get}
+use Rattle.std.specs.declared.cmp.Ordering.TheVariants.{Less}
 use Rattle.asl_code.specs.declared.lock.Lock.{Lock}
 use Rattle.asl_code.specs.declared.lock.Lock.TheVariants as lock
 use Rattle.asl_lower.specs.declared.section.Section.{Section}
 use Rattle.asl_lower.specs.Lowered.{Lowered}
-use Rattle.asl_lower.specs.Regions.{Body, Inside}
+use Rattle.asl_lower.specs.Regions.{Inside}
 use Rattle.asl_points_to.specs.Classes.{Classed}
-use Rattle.asl_lock_expr.specs.ClassOf.{TellsStores, class_of}
+use Rattle.asl_lock_expr.specs.ClassOf.{class_of}
 use Rattle.asl_lock_expr.specs.Links.{IsOne}
-use Rattle.asl_lock_expr.specs.Order.{AreInOrder}
+use Rattle.asl_lock_expr.specs.Order.{lock_cmp, AreInOrder}
 use Rattle.asl_backward_flow.specs.Closed.{Family}
-use Rattle.asl_backward_flow.specs.Needed.{RegionNeeds, Needed, IsTold}
+use Rattle.asl_backward_flow.specs.Needed.{RegionNeeds, IsInNeeds, IsTold}
 use Rattle.asl_emitter.specs.Lists.{Locks, IsFree}
 use Rattle.asl_check.specs.declared.fault.CheckFault.{CheckFault}
 use Rattle.asl_check.specs.declared.fault.CheckFault.TheVariants.{Uncovered, Unguarded}
-use Rattle.asl_check.specs.Checked.{IsUnderOne, FirstListsCover, IsFirstLacking, IsFirstOpen}
+use Rattle.asl_check.specs.Checked.{IsUnderOne, AreUnder, LacksFirst, IsFirstOpen}
 use Rattle.asl_check.specs.Missing.{NamesLack, StandsBefore, IsAmong, AreInTurn}
 
--- each of these lists is in the order of locks
-abbrev pub AreAllInOrder : List (List Lock) → Type 0
-AreAllInOrder needs = (n : ℕ) (locks : List Lock) → slice_get needs n ≡ Some locks → AreInOrder locks
+-- a lock comes before the one of the number, if there is one
+abbrev pub ComesFirst : List Lock → Option ℕ → Lock → Type 0
+ComesFirst locks first n = (m : ℕ) (a : Lock) → first ≡ Some m → slice_get locks m ≡ Some a → lock_cmp n a ≡ Less
 
--- these are, for so many sections, in the order of locks, the locks that the parts of a flow tell after the `acq`
-pub record AreTold (l : Lowered) (parts : List RegionNeeds) (so_many : ℕ) (needs : List (List Lock)) : Type 0 where
-  pub count : length needs ≡ so_many
-  pub order : AreAllInOrder needs
-  pub each : (n : ℕ) (s : Section) (locks : List Lock) (a : Lock) → slice_get l.sections n ≡ Some s → slice_get needs n ≡ Some locks → IsOne locks a ↔ IsTold parts (Inside n) (s.acquire + 1) a
+-- a lock is covered; or it is not, and another absorbs it, or it does not come before the one of the number
+abbrev pub IsJudged : Classed → ℕ → List Lock → Locks → List Lock → Option ℕ → Lock → Type 0
+IsJudged c f list given locks first n = IsUnderOne c f list n ⊎ ((¬ IsUnderOne c f list n) × ((¬ IsFree c f given n) ⊎ (¬ ComesFirst locks first n)))
 
--- these are, for each section, in the order of locks, the locks that it needs after its `acq`, where functions store to their written classes
-pub record AreNeeds (l : Lowered) (c : Classed) (k_limit : ℕ) (needs : List (List Lock)) : Type 0 where
-  pub stores : ℕ → ℕ → Bool
-  pub written : TellsStores l c stores
-  pub count : length needs ≡ length l.sections
-  pub order : AreAllInOrder needs
-  pub each : (n : ℕ) (s : Section) (locks : List Lock) (a : Lock) → slice_get l.sections n ≡ Some s → slice_get needs n ≡ Some locks → IsOne locks a ↔ Needed l c stores k_limit (Inside n) (suc s.acquire) a
+-- of the first locks of a part, so many of them, those that are needed at the pc are judged, and the one of the number is lacking
+pub record AreJudged (c : Classed) (f : ℕ) (list : List Lock) (p : RegionNeeds) (pc below : ℕ) (first : Option ℕ) : Type 0 where
+  pub found : (m : ℕ) → first ≡ Some m → (a : Lock) × (slice_get p.locks m ≡ Some a) × IsInNeeds p pc a × IsFree c f (IsInNeeds p pc) a × (¬ IsUnderOne c f list a)
+  pub judged : (n k : ℕ) (a : Lock) → n < below → slice_get p.needs k ≡ Some (pc, n) → slice_get p.locks n ≡ Some a →
+      IsJudged c f list (IsInNeeds p pc) p.locks first a
 
--- as a family each section has its list at every point, and a body nothing
-abbrev pub InNeeds : List (List Lock) → Family
-InNeeds needs (Body function) pc a = ⊥
-InNeeds needs (Inside section) pc a = (locks : List Lock) × (slice_get needs section ≡ Some locks) × IsOne locks a
+-- the lists of the first sections, so many of them, cover what the parts of the flow tell after the `acq`
+abbrev pub AreCovered : Lowered → Classed → List RegionNeeds → List (List Lock) → ℕ → Type 0
+AreCovered l c parts lists so_many =
+    (n : ℕ) → n < so_many → (s : Section) (list : List Lock) → slice_get l.sections n ≡ Some s → slice_get lists n ≡ Some list →
+    AreUnder c s.function list (IsTold parts (Inside n) (s.acquire + 1))
 
--- what is answered where the lists do not cover what is needed
-abbrev pub IsUncovered : Lowered → Classed → List (List Lock) → List (List Lock) → CheckFault → Type 0
-IsUncovered l c needs lists (Uncovered section lock) = IsFirstLacking l c (InNeeds needs) lists section lock
-IsUncovered l c needs lists fault = ⊥
+-- the section is the first whose list does not, and this is the first such lock
+pub record IsBare (l : Lowered) (c : Classed) (parts : List RegionNeeds) (lists : List (List Lock)) (section : ℕ) (lock : Lock) : Type 0 where
+  pub is : Section
+  pub in_table : slice_get l.sections section ≡ Some is
+  pub list : List Lock
+  pub listed : slice_get lists section ≡ Some list
+  pub earlier : AreCovered l c parts lists section
+  pub first : LacksFirst c is.function list (IsTold parts (Inside section) (is.acquire + 1)) lock
+
+-- what is answered where the lists do not cover what the parts tell
+abbrev pub IsUncovered : Lowered → Classed → List RegionNeeds → List (List Lock) → CheckFault → Type 0
+IsUncovered l c parts lists (Uncovered section lock) = IsBare l c parts lists section lock
+IsUncovered l c parts lists fault = ⊥
 
 -- what is answered where they do not cover what they read
 abbrev pub IsUnguarded : Lowered → Classed → List (List Lock) → CheckFault → Type 0
 IsUnguarded l c lists (Unguarded section lock) = IsFirstOpen l c lists section lock
 IsUnguarded l c lists fault = ⊥
 
--- the first that is wrong with lists, by what is needed
-abbrev pub IsFirstLack : Lowered → Classed → List (List Lock) → List (List Lock) → CheckFault → Type 0
-IsFirstLack l c needs lists (Uncovered section lock) = IsFirstLacking l c (InNeeds needs) lists section lock
-IsFirstLack l c needs lists (Unguarded section lock) = FirstListsCover l c (InNeeds needs) lists (length l.sections) × IsFirstOpen l c lists section lock
-IsFirstLack l c needs lists fault = ⊥
+-- the first that is wrong with lists, by the parts of the flow
+abbrev pub IsFirstLack : Lowered → Classed → List RegionNeeds → List (List Lock) → CheckFault → Type 0
+IsFirstLack l c parts lists (Uncovered section lock) = IsBare l c parts lists section lock
+IsFirstLack l c parts lists (Unguarded section lock) = AreCovered l c parts lists (length l.sections) × IsFirstOpen l c lists section lock
+IsFirstLack l c parts lists fault = ⊥
 
 -- the class of a lock: the one that it is on, or that of the cell that its expression denotes
 abbrev pub own_class : Classed → ℕ → Lock → Option ℕ

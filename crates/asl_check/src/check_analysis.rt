@@ -4,24 +4,22 @@ ghost use Rattle.asl_syntax.specs.AstView.{tree_of};
 ghost use Rattle.asl_lower.specs.Lowered.{IsLowering};
 ghost use Rattle.asl_lower.specs.LegalLowering.{IsLegalLowering};
 ghost use Rattle.asl_points_to.specs.Classes.{AreClasses};
+ghost use Rattle.asl_backward_flow.specs.Flows.{IsFlow};
 ghost use Rattle.asl_emitter.specs.Refused.{IsAccepted, IsRefusedInference};
-ghost use Rattle.asl_check.specs.KnownLists.{AreNeeds};
 
-use crate::entry_needs::entry_needs;
-use asl_backward_flow::needed_at_entries;
-use asl_code::{Items, Lock};
+use asl_backward_flow::{Flow, needed};
 use asl_emitter::InferFault;
 use asl_lower::{Lowering, lower};
 use asl_points_to::{Classes, classes};
 use asl_syntax::Ast;
 use std::alloc::Global;
 
-/// The lowering of a tree, with its classes, and with what each of its sections needs after its `acq`, in the order of locks.
+/// The lowering of a tree, with its classes and its flow.
 #[derive(Drop)]
 pub struct CheckAnalysis {
     pub lowering: Lowering,
     pub classes: Classes,
-    pub needs: Items<Items<Lock>>,
+    pub flow: Flow,
 }
 
 /// What is known of a tree, with paths of at most `k` operations.
@@ -30,17 +28,16 @@ pub fn analyse(alloc: Global, ast: &Ast<'_>, k: u32) -> Result<CheckAnalysis, In
     ensures lowering { IfOk result (λ a. IsLowering (tree_of ast.now) a.lowering) }
     ensures kept { IfOk result (λ a. IsLegalLowering a.lowering) }
     ensures classes { IfOk result (λ a. AreClasses a.lowering a.classes) }
-    ensures needs { IfOk result (λ a. AreNeeds a.lowering a.classes k a.needs) }
+    ensures flow { IfOk result (λ a. IsFlow a.lowering a.classes k a.flow) }
     ensures accepted { IfOk result (λ _. IsAccepted (tree_of ast.now) k) }
     ensures refused { IfErr result (IsRefusedInference (tree_of ast.now) k) }
 {
     let lowering = lower(alloc, ast)?;
     let classes = classes(alloc, &lowering)?;
-    let flow = needed_at_entries(alloc, &lowering, &classes, k)?;
-    let needs = entry_needs(alloc, &lowering, &flow)?;
+    let flow = needed(alloc, &lowering, &classes, k)?;
     Ok(CheckAnalysis {
         lowering,
         classes,
-        needs,
+        flow,
     })
 }

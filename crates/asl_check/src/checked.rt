@@ -48,7 +48,6 @@ pub fn check(alloc: Global, ast: &Ast<'_>, program: &Program, k: u32) -> Result<
         return Err(CheckFault::OtherCode(difference));
     }
     let lists = program.lists();
-    let needs = analysis.needs.as_slice();
-    cover(&analysis.lowering, &analysis.classes, needs, lists)?;
+    cover(&analysis.lowering, &analysis.classes, &analysis.flow, lists)?;
     guard(&analysis.lowering, &analysis.classes, lists)
 }

@@ -1,13 +1,14 @@
 //! All that lists lack, section by section, in the order in which they are judged.
 ghost use Rattle.std.specs.Prelude.{◌≡◌, ◌++◌, IfOk, OnOk, length, map};
 ghost use Rattle.asl_code.specs.declared.lock.Lock.{Lock as AnyLock};
+ghost use Rattle.asl_backward_flow.specs.Needed.{IsTold};
 ghost use Rattle.asl_check.specs.declared.fault.CheckFault.TheVariants.{Uncovered, Unguarded};
 ghost use Rattle.asl_check.specs.Missing.{AreAllLacks};
-ghost use Rattle.asl_check.specs.KnownLists.{InNeeds};
 
 use crate::bare_locks::{bare_needs, bare_reads};
 use crate::fault::CheckFault;
 use crate::locks::copied;
+use asl_backward_flow::Flow;
 use asl_code::{Items, Lock};
 use asl_lower::Lowering;
 use asl_points_to::Classes;
@@ -46,18 +47,16 @@ pub fn lacks(
     alloc: Global,
     lowering: &Lowering,
     classes: &Classes,
-    needs: &[Items<Lock>],
+    flow: &Flow,
     lists: &[Items<Lock>],
 ) -> Result<Vec<CheckFault>, AllocError>
-    requires lists { length lists.now ≡ length lowering.now.sections }
-    requires needs { length needs.now ≡ length lowering.now.sections }
-    ensures { IfOk result (λ v. AreAllLacks lowering.now classes.now (InNeeds needs.now) lists.now v.items) }
+    requires { length lists.now ≡ length lowering.now.sections }
+    ensures { IfOk result (λ v. AreAllLacks lowering.now classes.now (IsTold flow.now) lists.now v.items) }
 {
     let mut faults = Vec::new(alloc);
     for (number, section) in lowering.sections().iter().enumerate() {
         let list = lists[number].as_slice();
-        let needed = needs[number].as_slice();
-        let bare = bare_needs(alloc, classes, section.function, list, needed)?;
+        let bare = bare_needs(alloc, classes, section, list, flow, number as u16)?;
         add_uncovered(&mut faults, number as u16, bare.as_slice())?;
     }
     for (place, section) in lowering.sections().iter().enumerate() {

@@ -9,7 +9,6 @@ mod code_difference;
 mod coded;
 mod covered;
 mod covers;
-mod entry_needs;
 mod fault;
 mod lacking;
 mod lacks;

@@ -1,12 +1,15 @@
 //! Locks made and compared without memory.
 ghost use Rattle.std.specs.Prelude.{◌≡◌, ◌≤◌, ◌↔◌, IsTrue, length};
+ghost use Rattle.std.specs.declared.cmp.Ordering.TheVariants.{Less};
 ghost use Rattle.asl_code.specs.declared.value.Effect.TheVariants.{Read};
 ghost use Rattle.asl_lock_expr.specs.Links.{on};
+ghost use Rattle.asl_lock_expr.specs.Order.{lock_cmp};
 ghost use Rattle.asl_emitter.specs.Lists.{Absorbs};
 
 use asl_code::{Base, Effect, Expr, Lock, Op, Path};
 use asl_emitter::suffices_for;
 use asl_points_to::Classes;
+use std::cmp::Ordering;
 
 /// The path of these operations.
 fn path_of(ops: &[Op]) -> Path
@@ -64,4 +67,22 @@ pub fn absorbs(classes: &Classes, function: u16, lock: &Lock, other: &Lock) -> b
         return false;
     }
     suffices_for(classes, function, lock, other)
+}
+
+/// Which lock comes first.
+#[tactic(auto, using(asl_lock_expr::proofs::Derived::derived_is))]
+fn compare(a: &Lock, b: &Lock) -> Ordering
+    ensures { result ≡ lock_cmp a.now b.now }
+{
+    a.cmp(b)
+}
+
+/// Whether the first lock comes before the second.
+pub fn is_before(lock: &Lock, other: &Lock) -> bool
+    ensures { IsTrue result ↔ (lock_cmp lock.now other.now ≡ Less) }
+{
+    match compare(lock, other) {
+        Ordering::Less => true,
+        _ => false,
+    }
 }

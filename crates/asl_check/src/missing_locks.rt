@@ -49,11 +49,16 @@ pub fn missing(
         return Err(CheckFault::OtherCode(difference));
     }
     let lists = program.lists();
-    let needs = analysis.needs.as_slice();
-    match judge(&analysis.lowering, &analysis.classes, needs, lists) {
+    match judge(&analysis.lowering, &analysis.classes, &analysis.flow, lists) {
         Ok(()) => Ok(Vec::new(alloc)),
         Err(_first) => {
-            match lacks(alloc, &analysis.lowering, &analysis.classes, needs, lists) {
+            match lacks(
+                alloc,
+                &analysis.lowering,
+                &analysis.classes,
+                &analysis.flow,
+                lists,
+            ) {
                 Ok(faults) => Ok(faults),
                 Err(_) => Err(CheckFault::Infer(InferFault::OutOfMemory)),
             }

@@ -26,9 +26,9 @@ no_command name rows command.Disassemble e h = let n : 105 ≡ 117 = second name
 no_command name rows (command.Compile k_limit text) e h = let n : 111 ≡ 117 = second name (codes "compile") e h.0 in omega (arith, n)
 no_command name rows (command.Check k_limit all) e h = let n : 104 ≡ 117 = second name (codes "check") e h.0 in omega (arith, n)
 no_command name rows command.Map e h = let n : 97 ≡ 117 = second name (codes "map") e h in omega (arith, n)
-no_command name rows (command.Explain k_limit all classes entries) e h = let n : 120 ≡ 117 = second name (codes "explain") e h.0 in omega (arith, n)
+no_command name rows (command.Explain k_limit all classes) e h = let n : 120 ≡ 117 = second name (codes "explain") e h.0 in omega (arith, n)
 no_command name rows (command.Lists k_limit entries) e h = let n : 105 ≡ 117 = second name (codes "lists") e h.0 in omega (arith, n)
-no_command name rows (command.Diagnose assembly k_limit all entries) e h = let n : 105 ≡ 117 = second name (codes "diagnose") e h.0 in omega (arith, n)
+no_command name rows (command.Diagnose assembly k_limit all) e h = let n : 105 ≡ 117 = second name (codes "diagnose") e h.0 in omega (arith, n)
 no_command name rows (command.PrintC k_limit checks entries externs) e h = let n : 0 ≡ 117 = second name (codes "c") e h.0 in omega (arith, n)
 no_command name rows command.Replay e h = let n : 101 ≡ 117 = second name (codes "replay") e h in omega (arith, n)
 no_command name rows (command.Log trace) e h = let n : 111 ≡ 117 = second name (codes "log") e h.0 in omega (arith, n)
@@ -47,12 +47,8 @@ no_misuse name rows team text t (inr (inr (inr (inl h)))) = let n : 101 ≡ 117 
 no_misuse name rows team text t (inr (inr (inr (inr (inl h))))) = h.0 13 [] (lit< tt) t.name_is
 no_misuse name rows team text t (inr (inr (inr (inr (inr (inl (inl e, h))))))) = let n : 105 ≡ 117 = second name (codes "lists") t.name_is e in omega (arith, n)
 no_misuse name rows team text t (inr (inr (inr (inr (inr (inl (inr e, h))))))) = let n : 0 ≡ 117 = second name (codes "c") t.name_is e in omega (arith, n)
-no_misuse name rows team text t (inr (inr (inr (inr (inr (inr (inl (inl e, h)))))))) = let n : 105 ≡ 117 = second name (codes "lists") t.name_is e in omega (arith, n)
-no_misuse name rows team text t (inr (inr (inr (inr (inr (inr (inl (inr (inl e), h)))))))) = let n : 0 ≡ 117 = second name (codes "c") t.name_is e in omega (arith, n)
-no_misuse name rows team text t (inr (inr (inr (inr (inr (inr (inl (inr (inr (inl e)), h)))))))) = let n : 120 ≡ 117 = second name (codes "explain") t.name_is e in omega (arith, n)
-no_misuse name rows team text t (inr (inr (inr (inr (inr (inr (inl (inr (inr (inr e)), h)))))))) = let n : 105 ≡ 117 = second name (codes "diagnose") t.name_is e in omega (arith, n)
-no_misuse name rows team text t (inr (inr (inr (inr (inr (inr (inr (inl h)))))))) = let n : 0 ≡ 117 = second name (codes "c") t.name_is h.0 in omega (arith, n)
-no_misuse name rows team text t (inr (inr (inr (inr (inr (inr (inr (inr h)))))))) = let n : 105 ≡ 117 = second name (codes "diagnose") t.name_is h.0 in omega (arith, n)
+no_misuse name rows team text t (inr (inr (inr (inr (inr (inr (inl h))))))) = let n : 0 ≡ 117 = second name (codes "c") t.name_is h.0 in omega (arith, n)
+no_misuse name rows team text t (inr (inr (inr (inr (inr (inr (inr h))))))) = let n : 105 ≡ 117 = second name (codes "diagnose") t.name_is h.0 in omega (arith, n)
 
 run_taken : (o : Option (Text × List Row)) (team : RunArguments) (i : Invocation) → IsTaken o (Run team) → IsTaken o i → IsRun i
 run_taken None team i t h = absurd t

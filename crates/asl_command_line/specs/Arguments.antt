@@ -42,21 +42,17 @@ check_app = with_rule (with_rule (new_app (codes "check")) (value_rule (codes "k
 abbrev pub map_app : App
 map_app = new_app (codes "map")
 
--- `explain [--k K] [--all] [--classes] [--entry F]..`
+-- `explain [--k K] [--all] [--classes]`
 abbrev pub explain_app : App
-explain_app =
-    with_rule (with_rule (with_rule (with_rule (new_app (codes "explain")) (value_rule (codes "k"))) (flag_rule (codes "all"))) (flag_rule (codes "classes")))
-    (values_rule (codes "entry"))
+explain_app = with_rule (with_rule (with_rule (new_app (codes "explain")) (value_rule (codes "k"))) (flag_rule (codes "all"))) (flag_rule (codes "classes"))
 
 -- `lists [--k K] [--entry F]..`
 abbrev pub lists_app : App
 lists_app = with_rule (with_rule (new_app (codes "lists")) (value_rule (codes "k"))) (values_rule (codes "entry"))
 
--- `diagnose [--k K] [--asm] [--all] [--entry F]..`
+-- `diagnose [--k K] [--asm] [--all]`
 abbrev pub diagnose_app : App
-diagnose_app =
-    with_rule (with_rule (with_rule (with_rule (new_app (codes "diagnose")) (value_rule (codes "k"))) (flag_rule (codes "asm"))) (flag_rule (codes "all")))
-    (values_rule (codes "entry"))
+diagnose_app = with_rule (with_rule (with_rule (new_app (codes "diagnose")) (value_rule (codes "k"))) (flag_rule (codes "asm"))) (flag_rule (codes "all"))
 
 -- `c [--k K] [--check] [--entry F].. [--extern F=NAME]..`
 abbrev pub c_app : App

@@ -88,14 +88,13 @@ IsCommand name rows (command.Compile k_limit text) =
 IsCommand name rows (command.Check k_limit all) =
     (name ≡ codes "check") × IsLengthAt rows k_limit × IsFlagAt (codes "all") rows all
 IsCommand name rows command.Map = name ≡ codes "map"
-IsCommand name rows (command.Explain k_limit all classes entries) =
+IsCommand name rows (command.Explain k_limit all classes) =
     (name ≡ codes "explain") × IsLengthAt rows k_limit × IsFlagAt (codes "all") rows all × IsFlagAt (codes "classes") rows classes
-    × AreEntriesAt rows (map string_bytes entries.items)
 IsCommand name rows (command.Lists k_limit entries) =
     (name ≡ codes "lists") × IsLimitAt rows k_limit × AreEntriesAt rows (map string_bytes entries.items)
-IsCommand name rows (command.Diagnose assembly k_limit all entries) =
+IsCommand name rows (command.Diagnose assembly k_limit all) =
     (name ≡ codes "diagnose") × IsFlagAt (codes "asm") rows assembly × IsLengthAt rows k_limit × IsFlagAt (codes "all") rows all
-    × AreEntriesAt rows (map string_bytes entries.items) × (all ≡ true → assembly ≡ false) × (assembly ≡ true → entries.items ≡ [])
+    × (all ≡ true → assembly ≡ false)
 IsCommand name rows (command.PrintC k_limit checks entries externs) =
     (name ≡ codes "c") × IsLimitAt rows k_limit × IsFlagAt (codes "check") rows checks × AreEntriesAt rows (map string_bytes entries.items)
     × AreExterns (words_at (codes "extern") rows) externs.items
@@ -154,12 +153,6 @@ pub record TellsNoSource (rows : List Row) (text : Text) : Type 0 where
   pub all : IsFlagAt (codes "all") rows true
   pub assembly : IsFlagAt (codes "asm") rows true
   pub text_is : text ≡ usage_text (codes "the argument '--all' cannot be used with '--asm'")
-
--- `--entry` and `--asm` are both given; the text says that they do not go together
-pub record TellsNoCalls (rows : List Row) (text : Text) : Type 0 where
-  pub entries : words_at (codes "entry") rows ≢ []
-  pub assembly : IsFlagAt (codes "asm") rows true
-  pub text_is : text ≡ usage_text (codes "the argument '--entry <F>' cannot be used with '--asm'")
 
 -- the word asks the debugger for nothing, alone and with another after it
 pub record IsNoWord (name : Text) : Type 0 where
@@ -222,10 +215,9 @@ IsMisused name rows text =
     ⊎ (TellsNoNumber (codes "workers") (codes "--workers <W>") rows text ⊎ TellsNoNumber (codes "limit") (codes "--limit <L>") rows text)))
     ⊎ (((name ≡ codes "debug") × AskNothing rows × TellsNoWord (words_at (codes "words") rows) text)
     ⊎ ((IsUnknown name × (text ≡ usage_text (codes "the command is unknown")))
-    ⊎ ((((name ≡ codes "lists") ⊎ (name ≡ codes "c")) × TellsNoLimit rows text)
-    ⊎ ((((name ≡ codes "lists") ⊎ ((name ≡ codes "c") ⊎ ((name ≡ codes "explain") ⊎ (name ≡ codes "diagnose")))) × TellsNoEntry rows text)
+    ⊎ ((((name ≡ codes "lists") ⊎ (name ≡ codes "c")) × (TellsNoLimit rows text ⊎ TellsNoEntry rows text))
     ⊎ (((name ≡ codes "c") × TellsNoExtern rows text)
-    ⊎ ((name ≡ codes "diagnose") × (TellsNoSource rows text ⊎ TellsNoCalls rows text)))))))))
+    ⊎ ((name ≡ codes "diagnose") × TellsNoSource rows text)))))))
 
 -- what the command of this name with these values asks for
 abbrev pub IsReading : Text → List Row → Invocation → Type 0

@@ -103,8 +103,7 @@ fn explain_command<'a>(alloc: Global) -> Result<Command<'a>, AllocError>
     let command = named(alloc, "explain", "asl explain")?;
     let command = with_argument(command, value(alloc, "k", "K"))?;
     let command = with_argument(command, flag(alloc, "all"))?;
-    let command = with_argument(command, flag(alloc, "classes"))?;
-    with_argument(command, values(alloc, "entry", "F"))
+    with_argument(command, flag(alloc, "classes"))
 }
 
 /// What `asl lists` takes.
@@ -123,8 +122,7 @@ fn diagnose_command<'a>(alloc: Global) -> Result<Command<'a>, AllocError>
     let command = named(alloc, "diagnose", "asl diagnose")?;
     let command = with_argument(command, value(alloc, "k", "K"))?;
     let command = with_argument(command, flag(alloc, "asm"))?;
-    let command = with_argument(command, flag(alloc, "all"))?;
-    with_argument(command, values(alloc, "entry", "F"))
+    with_argument(command, flag(alloc, "all"))
 }
 
 /// What `asl c` takes.

@@ -51,8 +51,6 @@ pub enum Command {
         all: bool,
         /// Whether the classes are told in place of the lists.
         classes: bool,
-        /// The functions that are called from outside, where the source has no `main`.
-        entries: Vec<String>,
     },
     /// `lists`: the lists of the input, a source, as one JSON document.
     Lists {
@@ -69,8 +67,6 @@ pub enum Command {
         k_limit: PathLimit,
         /// Whether what the text of a source may lack is told, too. Of an assembly text there is nothing to tell.
         all: bool,
-        /// The functions that are called from outside, where the source has no `main`. An assembly text has none.
-        entries: Vec<String>,
     },
     /// `c`: the C program of the program that is inferred for the input, which is a source.
     PrintC {

@@ -131,28 +131,22 @@ pub const EXPLAIN: &str = "Says why each lock is in its list, from the statement
         Usage: asl explain [OPTIONS]\n\
         \n\
         Options:\n\
-        \u{20}     --k <K>      The most operations of a lock's path, 0 to 8 [default: 3]\n\
-        \u{20}     --all        Tells every chain of links, also of locks that the list's\n\
-        \u{20}                  lock contains, and each whole: without it a chain of more\n\
-        \u{20}                  than 40 steps is told by its ends; with --classes every\n\
-        \u{20}                  member\n\
-        \u{20}     --classes    Tells, in place of the lists, which objects each class has,\n\
-        \u{20}                  and which statements join them\n\
-        \u{20}     --entry <F>  A function called from outside, of a source without main;\n\
-        \u{20}                  may be given more than once\n\
-        \u{20} -h, --help       Print help\n\
+        \u{20}     --k <K>    The most operations of a lock's path, 0 to 8 [default: 3]\n\
+        \u{20}     --all      Tells every chain of links, also of locks that the list's lock\n\
+        \u{20}                contains; with --classes every member\n\
+        \u{20}     --classes  Tells, in place of the lists, which objects each class has,\n\
+        \u{20}                and which statements join them\n\
+        \u{20} -h, --help     Print help\n\
         \n\
         Input:  a source (docs/SOURCE.md)\n\
         Output: for each section its list, and below each lock the statements that need\n\
         \u{20}       it and the links by which it came to the section's start, in the\n\
-        \u{20}       source's words (docs/ANALYSIS.md); then the lists of each k;\n\
-        \u{20}       with --entry at the end what was added to call the entries\n\
+        \u{20}       source's words (docs/ANALYSIS.md); then the lists of each k\n\
         \n\
         Examples, from the top of the repository:\n\
         \u{20} ./asl explain < examples/counter.asl\n\
         \u{20} ./asl explain --k 1 --all < examples/walk.asl\n\
         \u{20} ./asl explain --classes < examples/walk.asl\n\
-        \u{20} echo 'fn f(p) { atomic { x = *p; } return x; }' | ./asl explain --entry f\n\
         \n\
         Status: 0 done\n\
         \u{20}       1 refused, with one line 'asl: NAME' on standard error\n\
@@ -162,7 +156,7 @@ pub const EXPLAIN: &str = "Says why each lock is in its list, from the statement
         \u{20} Read         standard input failed\n\
         \u{20} TooLong      the input is longer than 268435456 bytes\n\
         \u{20} NotAscii(n) .. TooManyLocks(r)\n\
-        \u{20}              as for asl compile, of the source and what calls its entries\n\
+        \u{20}              as for asl compile\n\
         \u{20} Write        standard output failed; a part may have been written\n\
         \u{20} OutOfMemory  memory ran out\n\
         \n\
@@ -209,13 +203,11 @@ pub const DIAGNOSE: &str = "Says where and why a source or an assembly text is a
         Usage: asl diagnose [OPTIONS]\n\
         \n\
         Options:\n\
-        \u{20}     --k <K>      The most operations of a lock's path, 0 to 8 [default: 3]\n\
-        \u{20}     --asm        Takes the input as an assembly text, in place of a source\n\
-        \u{20}     --all        Tells what the text may lack, too: calls of functions, and\n\
-        \u{20}                  what fills pointers; not with --asm\n\
-        \u{20}     --entry <F>  A function called from outside, of a source without main;\n\
-        \u{20}                  may be given more than once; not with --asm\n\
-        \u{20} -h, --help       Print help\n\
+        \u{20}     --k <K>  The most operations of a lock's path, 0 to 8 [default: 3]\n\
+        \u{20}     --asm    Takes the input as an assembly text, in place of a source\n\
+        \u{20}     --all    Tells what the text may lack, too: calls of functions, and what\n\
+        \u{20}              fills pointers; not with --asm\n\
+        \u{20} -h, --help   Print help\n\
         \n\
         Input:  a source (docs/SOURCE.md), or with --asm an assembly text\n\
         \u{20}       (docs/FORMATS.md)\n\
@@ -223,15 +215,13 @@ pub const DIAGNOSE: &str = "Says where and why a source or an assembly text is a
         \u{20}       fault's name, a sentence, the line of the text with a mark below the\n\
         \u{20}       place, and how to go on; with --all then the functions that `main` does\n\
         \u{20}       not reach, and the loads and stores through a pointer of no class\n\
-        \u{20}       (docs/ANALYSIS.md); with --entry at the end from which line on the\n\
-        \u{20}       text is what was added to call the entries\n\
+        \u{20}       (docs/ANALYSIS.md)\n\
         \n\
         Examples, from the top of the repository:\n\
         \u{20} ./asl diagnose < examples/counter.asl\n\
         \u{20} ./asl diagnose --all < examples/counter.asl\n\
         \u{20} ./asl diagnose --asm < examples/counter.asm\n\
         \u{20} echo 'fn main(t) { x = 1 + 1; return x; }' | ./asl diagnose\n\
-        \u{20} echo 'fn f(p) { x = *p; return x; }' | ./asl diagnose --entry f\n\
         \n\
         Status: 0 done, also where the text is at fault\n\
         \u{20}       1 refused, with one line 'asl: NAME' on standard error\n\

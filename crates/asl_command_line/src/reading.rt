@@ -161,33 +161,16 @@ fn read_explain(alloc: Global, values: &ArgMatches<'_>) -> Result<Invocation, Al
     ensures { IfOk result (IsReading (codes "explain") (rows_of (found_of values.now))) }
 {
     match k_limit_at(values) {
-        Ok(k_limit) => read_explain_entries(alloc, values, k_limit),
-        Err(word) => invalid(alloc, word, "--k <K>", A_PATH_LIMIT),
-    }
-}
-
-/// What `explain` is asked for, with paths of this length.
-fn read_explain_entries(
-    alloc: Global,
-    values: &ArgMatches<'_>,
-    k_limit: PathLimit,
-) -> Result<Invocation, AllocError>
-    requires { IsLengthAt (rows_of (found_of values.now)) k_limit }
-    ensures { IfOk result (IsReading (codes "explain") (rows_of (found_of values.now))) }
-{
-    match entries_at(alloc, values) {
-        Ok(entries) => {
+        Ok(k_limit) => {
             let all = flag_at(values, "all");
             let classes = flag_at(values, "classes");
             Ok(Invocation::Alone(Command::Explain {
                 k_limit,
                 all,
                 classes,
-                entries,
             }))
         }
-        Err(EntriesFault::NoName(word)) => no_entry(alloc, word),
-        Err(EntriesFault::OutOfMemory) => Err(AllocError),
+        Err(word) => invalid(alloc, word, "--k <K>", A_PATH_LIMIT),
     }
 }
 
@@ -230,13 +213,13 @@ fn read_diagnose(alloc: Global, values: &ArgMatches<'_>) -> Result<Invocation, A
     ensures { IfOk result (IsReading (codes "diagnose") (rows_of (found_of values.now))) }
 {
     match k_limit_at(values) {
-        Ok(k_limit) => read_diagnose_entries(alloc, values, k_limit),
+        Ok(k_limit) => read_diagnose_flags(alloc, values, k_limit),
         Err(word) => invalid(alloc, word, "--k <K>", A_PATH_LIMIT),
     }
 }
 
 /// What `diagnose` is asked for, with paths of this length.
-fn read_diagnose_entries(
+fn read_diagnose_flags(
     alloc: Global,
     values: &ArgMatches<'_>,
     k_limit: PathLimit,
@@ -244,40 +227,15 @@ fn read_diagnose_entries(
     requires { IsLengthAt (rows_of (found_of values.now)) k_limit }
     ensures { IfOk result (IsReading (codes "diagnose") (rows_of (found_of values.now))) }
 {
-    match entries_at(alloc, values) {
-        Ok(entries) => read_diagnose_flags(alloc, values, k_limit, entries),
-        Err(EntriesFault::NoName(word)) => no_entry(alloc, word),
-        Err(EntriesFault::OutOfMemory) => Err(AllocError),
-    }
-}
-
-/// What `diagnose` is asked for, with paths of this length and these entries.
-fn read_diagnose_flags(
-    alloc: Global,
-    values: &ArgMatches<'_>,
-    k_limit: PathLimit,
-    entries: Vec<String>,
-) -> Result<Invocation, AllocError>
-    requires length { IsLengthAt (rows_of (found_of values.now)) k_limit }
-    requires entries { AreEntriesAt (rows_of (found_of values.now)) (map string_bytes entries.items) }
-    ensures { IfOk result (IsReading (codes "diagnose") (rows_of (found_of values.now))) }
-{
     let assembly = flag_at(values, "asm");
     let all = flag_at(values, "all");
     if assembly && all {
         return wrong_usage(alloc, "the argument '--all' cannot be used with '--asm'");
     }
-    if assembly && !entries.is_empty() {
-        return wrong_usage(
-            alloc,
-            "the argument '--entry <F>' cannot be used with '--asm'",
-        );
-    }
     Ok(Invocation::Alone(Command::Diagnose {
         assembly,
         k_limit,
         all,
-        entries,
     }))
 }
 

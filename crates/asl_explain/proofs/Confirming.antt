@@ -1,7 +1,6 @@
 -- What is found out of a step.
-use Rattle.std.proofs.Common.{◌≡◌, ◌≢◌, AllPairs, arith, ◌∙◌, ℕ, Bool, IsTrue, List, [], ◌∷◌, ◌++◌, ◌⊎◌, ⊎_elim, inl, inr, Option, Some, IfSome, Result, Ok, Err, IfOk, slice_get, refl, sym, ap, subst}
-use Rattle.std.proofs.lemmas.Bool.{cases_lt}
-use Rattle.std.proofs.lemmas.Option.{same_Some, get_or_from_slice_get, slice_get_within}
+use Rattle.std.proofs.Common.{◌≡◌, ℕ, Bool, IsTrue, List, [], ◌∷◌, ◌++◌, ◌⊎◌, ⊎_elim, inl, inr, Option, Some, IfSome, Result, Ok, Err, IfOk, slice_get, refl, sym, ap, subst}
+use Rattle.std.proofs.lemmas.Option.{same_Some}
 use Rattle.std.specs.List.{flat_map}
 use Rattle.asl_code.specs.declared.image.Function as entry
 use Rattle.asl_code.specs.declared.instr.Instr.{Instr}
@@ -10,11 +9,9 @@ use Rattle.asl_code.specs.declared.lock.Lock.{Lock}
 use Rattle.asl_lower.specs.Regions.{Region, Body, IsIn}
 use Rattle.asl_lower.specs.OpenSections.{start_of}
 use Rattle.asl_lock_expr.specs.Links.{LinkContext, view, IsOne, settle, renamed}
-use Rattle.asl_lock_expr.proofs.Ones.{one_left, one_right}
 use Rattle.asl_lock_expr.specs.Stores.{stores}
 use Rattle.asl_backward_flow.specs.declared.region.Region.TheVariants as variant
-use Rattle.asl_backward_flow.specs.Needed.{RegionNeeds, IsInNeeds, region_of}
-use Rattle.asl_emitter.proofs.Reducing.{one_at}
+use Rattle.asl_backward_flow.specs.Needed.{RegionNeeds, region_of}
 use Rattle.asl_backward_flow.proofs.Leasts.{needed_inside}
 use Rattle.asl_explain.specs.declared.explain_analysis.ExplainAnalysis.{ExplainAnalysis}
 use Rattle.asl_explain.specs.declared.explained_value.Step.{Step}
@@ -25,27 +22,6 @@ use Rattle.asl_explain.specs.Analysed.{read, IsAnalysed}
 pub needed_told : (a : ExplainAnalysis) → IsAnalysed a → (r : Region) (place pc number : ℕ) (lock : Lock) (p : RegionNeeds) → slice_get a.flow place ≡ Some p → p.region ≡ r → slice_get p.locks number ≡ Some lock
     → ((k : ℕ) × (slice_get p.needs k ≡ Some (pc, number))) → Needs (read a) r pc lock
 needed_told a known r place pc number lock p at same own there = (known.tells r pc lock).0 (place, p, at, same, (number, there.0, there.1, own))
-
--- where a lock stands in a list of different ones
-pub only_place : (xs : List Lock) → AllPairs (λ a b. a ≢ b) xs → (m n : ℕ) (a : Lock) → slice_get xs m ≡ Some a → slice_get xs n ≡ Some a → m ≡ n
-only_place xs apart m n a at there =
-    let here = get_or_from_slice_get xs m a a at in
-    let later = get_or_from_slice_get xs n a a there in
-    elim (cases_lt m n) [
-      | inl less ↦ absurd (apart m n a less (slice_get_within xs n a there) (here ∙ sym later))
-      | inr more ↦ elim (cases_lt n m) [ inl less ↦ absurd (apart n m a less (slice_get_within xs m a at) (later ∙ sym here)) | inr back ↦ omega (arith, more, back) ]
-    ]
-
-pub one_stands : (xs : List Lock) (n : ℕ) (a : Lock) → slice_get xs n ≡ Some a → IsOne xs a
-one_stands xs n a at = subst (IsOne xs) (get_or_from_slice_get xs n a a at) (one_at xs n a (slice_get_within xs n a at))
-
--- what a region needs is told by its part
-pub told_here : (a : ExplainAnalysis) → IsAnalysed a → (r : Region) (place : ℕ) (p : RegionNeeds) → slice_get a.flow place ≡ Some p → p.region ≡ r → (pc : ℕ) (lock : Lock) → Needs (read a) r pc lock → IsInNeeds p pc lock
-told_here a known r place p at own pc lock needed =
-    let told = (known.tells r pc lock).1 needed in
-    let same : told.0 ≡ place = known.flow.apart.distinct told.0 place told.1 p told.2 at (told.3 ∙ sym own) in
-    let part : told.1 ≡ p = same_Some _ _ (sym told.2 ∙ subst (λ n. slice_get a.flow n ≡ Some p) (sym same) at) in
-    subst (λ (q : RegionNeeds). IsInNeeds q pc lock) part told.4
 
 -- the instruction at a pc at which a region needs a lock
 pub stands_here : (a : ExplainAnalysis) (r : Region) (pc f : ℕ) (i : Instr) (lock : Lock) → Needs (read a) r pc lock → ((function q : ℕ) → IsIn a.lowering r function q → Some f ≡ Some function) → slice_get a.lowering.code pc ≡ Some i
@@ -71,11 +47,6 @@ one_either (m ∷ ms) ns a (inr e) = ⊎_elim (λ x. inl (inr x)) (λ y. inr y) 
 pub one_settled : (v : LinkContext) (locks : List Lock) (n : Lock) → IsOne (flat_map (settle v) locks) n → (m : Lock) × IsOne locks m × IsOne (settle v m) n
 one_settled v [] n h = absurd h
 one_settled v (m ∷ ms) n h = ⊎_elim (λ k. (m, inl refl, k)) (λ k. let t = one_settled v ms n k in (t.0, inr t.1, t.2)) (one_either (settle v m) (flat_map (settle v) ms) n h)
-
-pub settled_one : (v : LinkContext) (locks : List Lock) (m n : Lock) → IsOne locks m → IsOne (settle v m) n → IsOne (flat_map (settle v) locks) n
-settled_one v [] m n one settles = absurd one
-settled_one v (k ∷ ks) m n (inl is) settles = one_left (settle v k) (flat_map (settle v) ks) n (subst (λ (l : Lock). IsOne (settle v l) n) (sym is) settles)
-settled_one v (k ∷ ks) m n (inr later) settles = one_right (settle v k) (flat_map (settle v) ks) n (settled_one v ks m n later settles)
 
 -- a lock at a callee's entry, which becomes the step's at the call
 pub entry_of : {E : Type 0} (a : ExplainAnalysis) (before s : Step) (f to first callee params : ℕ) (i : Instr) → StandsAt (read a) (region_of s.region) s.pc f i → i ≡ instr.Call to first callee → before.region ≡ variant.Body callee

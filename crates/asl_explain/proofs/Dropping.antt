@@ -1,7 +1,9 @@
 -- Locks that end at a `new`.
-use Rattle.std.proofs.Common.{◌≡◌, ◌↔◌, ◌+◌, ◌<◌, ◌≤◌, ◌⊎◌, ⊎_elim, ℕ, zero, suc, Bool, true, List, [], ◌∷◌, ◌++◌, length, map, take, get_or, Some, slice_get, inl, inr, refl, sym, ap, ◌∙◌, subst, arith, eq-eqb, if◌then◌else◌}
-use Rattle.std.proofs.lemmas.Option.{same_Some, slice_get_within}
-use Rattle.std.specs.List.{flat_map}
+use Rattle.std.proofs.Common.{◌≡◌, ◌≢◌, ◌↔◌, ◌+◌, ◌<◌, ◌≤◌, ◌⊎◌, ⊎_elim, ℕ, zero, suc, Bool, true, List, [], ◌∷◌, ◌++◌, length, map, take, get_or, Some, IfSome, slice_get, inl, inr, refl, sym, ap, ◌∙◌, subst, arith, eq-eqb, if◌then◌else◌}
+use Rattle.std.proofs.lemmas.Option.{same_Some, slice_get_within, get_or_from_slice_get}
+use Rattle.std.proofs.lemmas.Bool.{cases_lt}
+use Rattle.std.specs.List.{flat_map, AllPairs}
+use Rattle.std.proofs.Math.Nat.{eq-or-lt_of_le}
 use Rattle.asl_code.specs.declared.instr.Instr.TheVariants.{New}
 use Rattle.asl_code.specs.declared.lock.Base.{Base}
 use Rattle.asl_code.specs.declared.lock.Lock.{Lock}
@@ -11,15 +13,14 @@ use Rattle.asl_lower.specs.Regions.{Inside}
 use Rattle.asl_lock_expr.specs.Links.{LinkContext, view, IsOne, is_register, settle, link}
 use Rattle.asl_lock_expr.specs.Stores.{stores}
 use Rattle.asl_lock_expr.specs.Order.{AreInOrder}
-use Rattle.asl_backward_flow.specs.Needed.{RegionNeeds, HasNoPart}
+use Rattle.asl_backward_flow.specs.Needed.{RegionNeeds, IsInNeeds, HasNoPart}
 use Rattle.asl_emitter.proofs.Reducing.{one_of_more, more_of_one}
 use Rattle.asl_explain.specs.declared.explain_analysis.ExplainAnalysis.{ExplainAnalysis}
 use Rattle.asl_explain.specs.declared.explained_value.Ended.{Ended}
 use Rattle.asl_explain.specs.Chains.{Read, Needs, IsOn, IsDropped}
-use Rattle.asl_explain.specs.Explained.{IsEnded, AreEnded, AreAllEnded}
+use Rattle.asl_explain.specs.Explained.{IsEnding, AreEnded, AreAllEnded}
 use Rattle.asl_explain.specs.Analysed.{read, IsAnalysed, IsMadeAt, HasAdded, AreEndedBelow, AreEndedOf}
 use Rattle.asl_explain.specs.Endings.{Has, EndsSomewhere}
-use Rattle.asl_explain.proofs.Confirming.{told_here, one_stands, only_place}
 use Rattle.asl_explain.proofs.Ends.{get_more, length_more, map_more, all_more as each_more}
 use Rattle.asl_explain.proofs.Under.{one_taken}
 
@@ -97,6 +98,20 @@ has_last (y ∷ xs) x = let h = has_last xs x in (suc h.0, h.1)
 
 -- ---- where locks end
 
+placed_one : (xs : List Lock) (n : ℕ) (m : Lock) → slice_get xs n ≡ Some m → IsOne xs m
+placed_one [] n m at = cc
+placed_one (x ∷ xs) zero m at = inl (same_Some _ _ at)
+placed_one (x ∷ xs) (suc n) m at = inr (placed_one xs n m at)
+
+-- in a list of different locks each has one place
+once : (xs : List Lock) → AllPairs (λ a b. a ≢ b) xs → (i j : ℕ) (m : Lock) → slice_get xs i ≡ Some m → slice_get xs j ≡ Some m → i ≡ j
+once xs pairs i j m one other =
+    let alike : get_or xs i m ≡ get_or xs j m = get_or_from_slice_get xs i m m one ∙ sym (get_or_from_slice_get xs j m m other) in
+    elim (cases_lt i j) [
+      | inl before ↦ absurd (pairs i j m before (slice_get_within xs j m other) alike)
+      | inr behind ↦ ⊎_elim (λ (same : j ≡ i). sym same) (λ (after : j < i). absurd (pairs j i m after (slice_get_within xs i m one) (sym alike))) (eq-or-lt_of_le behind)
+    ]
+
 -- a lock on the register of a `new` becomes none
 none_of : (v : LinkContext) (to cells site : ℕ) (l : Lock) → IsOn to l → link v (New to cells site) l ≡ []
 none_of v to cells site (Expr e effect) on =
@@ -140,15 +155,21 @@ module _ (a : ExplainAnalysis) (number : ℕ) (s : Section) (there : slice_get a
 
     pub needs_of : (pc : ℕ) → Needs (read a) (Inside number) (suc pc) l → (k : ℕ) × (slice_get p.needs k ≡ Some (pc + 1, which))
     needs_of pc needed =
-        let names = told_here a known (Inside number) place p at is (suc pc) l needed in
-        let own : names.0 ≡ which = only_place p.locks (known.flow.apart.different place p at) names.0 which l names.3 named in
+        let told = (known.tells (Inside number) (suc pc) l).1 needed in
+        let same : told.0 ≡ place = known.flow.apart.distinct told.0 place told.1 p told.2 at (told.3 ∙ sym is) in
+        let part : told.1 ≡ p = same_Some _ _ (sym told.2 ∙ ap (slice_get a.flow) same ∙ at) in
+        let names : IsInNeeds p (suc pc) l = subst (λ (q : RegionNeeds). IsInNeeds q (suc pc) l) part told.4 in
+        let own : names.0 ≡ which = once p.locks (known.flow.apart.different place p at) names.0 which l names.3 named in
         (names.1, subst (λ (n : ℕ). slice_get p.needs names.1 ≡ Some (pc + 1, n)) own (subst (λ (q : ℕ). slice_get p.needs names.1 ≡ Some (q, names.0)) (sym (next pc)) names.2))
 
   -- who ends somewhere is a lock of the section's part
   pub one_ended : IsAnalysed a → (place : ℕ) (p : RegionNeeds) (l : Lock) → slice_get a.flow place ≡ Some p → p.region ≡ Inside number → EndsSomewhere (read a) number l → IsOne p.locks l
   one_ended known place p l at is ends =
-      let names = told_here a known (Inside number) place p at is (suc ends.0) l ends.1.needed in
-      one_stands p.locks names.0 l names.3
+      let told = (known.tells (Inside number) (suc ends.0) l).1 ends.1.needed in
+      let same : told.0 ≡ place = known.flow.apart.distinct told.0 place told.1 p told.2 at (told.3 ∙ sym is) in
+      let part : told.1 ≡ p = same_Some _ _ (sym told.2 ∙ ap (slice_get a.flow) same ∙ at) in
+      let names : IsInNeeds p (suc ends.0) l = subst (λ (q : RegionNeeds). IsInNeeds q (suc ends.0) l) part told.4 in
+      placed_one p.locks names.0 l names.3
 
   -- where the flow has no part of the section, none ends
   pub none_ended : IsAnalysed a → HasNoPart a.flow (Inside number) → (locks : List Lock) → locks ≡ [] → HasAdded (EndsSomewhere (read a) number) [] locks
@@ -159,11 +180,12 @@ module _ (a : ExplainAnalysis) (number : ℕ) (s : Section) (there : slice_get a
 -- ---- with chains
 
 -- one lock that ends more
-pub ended_more : (x : Read) (section : ℕ) (locks next : List Lock) (l : Lock) (old new : List Ended) (e : Ended) → new ≡ old ++ e ∷ [] → next ≡ locks ++ l ∷ [] → e.lock ≡ l → AreEndedOf x section locks old → IsEnded x section e
+pub ended_more : (x : Read) (section : ℕ) (locks next : List Lock) (l : Lock) (old new : List Ended) (e : Ended) → new ≡ old ++ e ∷ [] → next ≡ locks ++ l ∷ [] → e.lock ≡ l → AreEndedOf x section locks old → IfSome e.ending (IsEnding x section e.lock)
     → AreEndedOf x section next new
 ended_more x section locks next l old new e is more lock all one = record {
   same = ap (map (λ (d : Ended). d.lock)) is ∙ map_more (λ (d : Ended). d.lock) old e ∙ ap (λ (xs : List Lock). xs ++ e.lock ∷ []) all.same ∙ ap (λ (m : Lock). locks ++ m ∷ []) lock ∙ sym more;
-  each = subst (λ (es : List Ended). (n : ℕ) (d : Ended) → slice_get es n ≡ Some d → IsEnded x section d) (sym is) (each_more (IsEnded x section) old e all.each one);
+  told = subst (λ (es : List Ended). (n : ℕ) (d : Ended) → slice_get es n ≡ Some d → IfSome d.ending (IsEnding x section d.lock)) (sym is)
+      (each_more (λ (d : Ended). IfSome d.ending (IsEnding x section d.lock)) old e all.told one);
 }
 
 one_mapped : (es : List Ended) (m : Lock) → IsOne (map (λ (e : Ended). e.lock) es) m → (n : ℕ) × (e : Ended) × (slice_get es n ≡ Some e) × (e.lock ≡ m)
@@ -178,7 +200,10 @@ mapped_one (d ∷ es) (suc n) e at = inr (mapped_one es n e at)
 
 pub ended_whole : (x : Read) (section : ℕ) (locks : List Lock) (es : List Ended) → HasAdded (EndsSomewhere x section) [] locks → AreEndedOf x section locks es → AreEnded x section es
 ended_whole x section locks es added of = record {
-  each = of.each;
+  each = λ n e at. record {
+    dropped = ⊎_elim (λ o. absurd o) (λ d. d) ((added.ones e.lock).0 (subst (λ (ls : List Lock). IsOne ls e.lock) of.same (mapped_one es n e at)));
+    told = of.told n e at;
+  };
   all = λ pc m d. one_mapped es m (subst (λ (ls : List Lock). IsOne ls m) (sym of.same) ((added.ones m).1 (inr (pc, d))));
   order = subst AreInOrder (sym of.same) added.order;
 }

@@ -60,14 +60,14 @@ same_lists (x ∷ xs) (y ∷ ys) same each =
     cc
 
 -- sections with these lists have their locks
-pub own_lists : (x : Read) (all : Bool) (lists : List (List Lock)) (sections : List (List Listed)) → length lists ≡ length x.lowered.sections → AreSections x all lists (length x.lowered.sections) sections → map (map lock_of) sections ≡ lists
-own_lists x all lists sections many are =
-    same_lists sections lists (are.count ∙ sym many) (λ n ls list at with. let s = there lists x.lowered.sections n list many with in (are.each n s.0 list ls s.1 with at).locks)
+pub own_lists : (x : Read) (lists : List (List Lock)) (sections : List (List Listed)) → length lists ≡ length x.lowered.sections → AreSections x lists (length x.lowered.sections) sections → map (map lock_of) sections ≡ lists
+own_lists x lists sections many all =
+    same_lists sections lists (all.count ∙ sym many) (λ n ls list at with. let s = there lists x.lowered.sections n list many with in (all.each n s.0 list ls s.1 with at).locks)
 
-explained_lists : (x : Read) (all : Bool) (lists : List (List Lock)) (sections : List (List Listed)) → length lists ≡ length x.lowered.sections → AreSections x all lists (length x.lowered.sections) sections → (image : Image) → image.lists ≡ lists → AreExplained x all image sections
-explained_lists x all lists sections many are image is = record {
-  lists = own_lists x all lists sections many are ∙ sym is;
-  each = λ n s ls i d stands at one. let list = there sections lists n ls (are.count ∙ sym many) at in (are.each n s list.0 ls stands list.1 at).each i d one;
+explained_lists : (x : Read) (lists : List (List Lock)) (sections : List (List Listed)) → length lists ≡ length x.lowered.sections → AreSections x lists (length x.lowered.sections) sections → (image : Image) → image.lists ≡ lists → AreExplained x image sections
+explained_lists x lists sections many all image is = record {
+  lists = own_lists x lists sections many all ∙ sym is;
+  each = λ n s ls i d stands at one. let list = there sections lists n ls (all.count ∙ sym many) at in (all.each n s list.0 ls stands list.1 at).each i d one;
 }
 
 module _ (source : List ℕ) (k : ℕ) (a : ExplainAnalysis) (of : IsOfSource source k a) where
@@ -97,8 +97,8 @@ module _ (source : List ℕ) (k : ℕ) (a : ExplainAnalysis) (of : IsOfSource so
     many = over.many;
   }
 
-  made_at : (all : Bool) (e : Explanation) → IsMade a all e → IsExplained of.tree a.k_limit all e
-  made_at all e made = record {
+  made_at : (e : Explanation) → IsMade a e → IsExplained of.tree a.k_limit e
+  made_at e made = record {
     analysis = record {
       program = record { lowering = a.lowering; lowers = of.lowers; classes = a.classes; are_classes = of.classes };
       stores = stores a.writes;
@@ -113,23 +113,23 @@ module _ (source : List ℕ) (k : ℕ) (a : ExplainAnalysis) (of : IsOfSource so
       };
       inferred = with_lists a.lowering a.classes (stores a.writes) a.k_limit a.flow made.lists of.analysed.tells made.fitted;
     };
-    sections = explained_lists (read a) all made.lists e.sections made.fitted.count made.sections (image_with a.lowering a.classes made.lists) refl;
+    sections = explained_lists (read a) made.lists e.sections made.fitted.count made.sections (image_with a.lowering a.classes made.lists) refl;
     ended = made.ended;
     by_length = record { count = made.count; each = λ k_limit l at. lists_at k_limit l (made.each k_limit l at) };
   }
 
-  pub made_explained : (all : Bool) (e : Explanation) → IsMade a all e → IsExplanation source k all e
-  made_explained all e made = record {
+  pub made_explained : (e : Explanation) → IsMade a e → IsExplanation source k e
+  made_explained e made = record {
     tree = of.tree;
     parsed = of.parsed;
     accepted = of.accepted;
-    explained = subst (λ n. IsExplained of.tree n all e) of.same (made_at all e made);
+    explained = subst (λ n. IsExplained of.tree n e) of.same (made_at e made);
   }
 
   pub made_text : (all : Bool) (text : List ℕ) → IsTextOf a source all text → IsText source k all text
   made_text all text t = record {
     explanation = t.explanation;
-    explains = made_explained all t.explanation t.made;
+    explains = made_explained t.explanation t.made;
     reasoned = t.reasoned;
     reasons = t.reasons;
     classes = t.classes;

@@ -1,5 +1,4 @@
 mod Ends
-mod Keeping
 mod Under
 mod Confirming
 mod Analysing
@@ -13,9 +12,6 @@ mod Rowing
 mod Sectionwise
 mod Walking
 mod Reasons
-mod Seeking
-mod SameNeed
-mod CoveredNeed
 mod Lengthening
 mod Short
 pub mod Opening

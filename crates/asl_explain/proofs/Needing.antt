@@ -1,6 +1,5 @@
 -- Needs of a section with one more, and the lists of the length that an analysis has.
-use Rattle.std.proofs.Common.{◌≡◌, ◌↔◌, ◌+◌, ◌<◌, ◌≤◌, ⊎_elim, ℕ, zero, suc, Bool, true, false, List, [], ◌∷◌, ◌++◌, length, map, take, get_or, Some, slice_get, inl, inr, refl, sym, ap, ◌∙◌, subst, arith}
-use Rattle.std.proofs.lemmas.List.{length-map, length-take-le}
+use Rattle.std.proofs.Common.{◌≡◌, ◌↔◌, ◌+◌, ◌<◌, ⊎_elim, ℕ, zero, suc, List, [], ◌∷◌, ◌++◌, length, map, take, get_or, Some, slice_get, inl, inr, refl, sym, ap, ◌∙◌, subst, arith}
 use Rattle.std.proofs.lemmas.Option.{same_Some}
 use Rattle.asl_code.specs.declared.lock.Lock.{Lock}
 use Rattle.asl_lower.specs.declared.section.Section.{Section}
@@ -11,7 +10,7 @@ use Rattle.asl_explain.specs.declared.explained_value.Chain.{Chain}
 use Rattle.asl_explain.specs.declared.explained_value.Listed.{Listed}
 use Rattle.asl_lower.specs.Regions.{Region}
 use Rattle.asl_explain.specs.Chains.{Read, IsChain}
-use Rattle.asl_explain.specs.Explained.{AreChains, AreReached, HasChain, IsNeed, IsReached, AreNeeds, IsOneOf, IsListed, locks_of}
+use Rattle.asl_explain.specs.Explained.{AreChains, IsNeed, AreNeeds, IsOneOf, IsListed, locks_of}
 use Rattle.asl_backward_flow.specs.Flows.{IsFlow}
 use Rattle.asl_emitter.specs.BuiltImage.{AreFitted}
 use Rattle.asl_explain.specs.declared.explain_analysis.ExplainAnalysis.{ExplainAnalysis}
@@ -43,31 +42,12 @@ ones_more old new d is locks i e lt same before n = (
       (one_of_more locks i e n lt o),
 )
 
--- a chain comes to one of the needs, with one more
-pub reached_more : (old new : List Need) (d : Need) → new ≡ old ++ d ∷ [] → IsReached old → IsReached new
-reached_more old new d is reached = subst IsReached (sym is) (reached.0, reached.1, at_old old d reached.0 reached.1 reached.2, reached.3)
-
-pub reached_last : (old new : List Need) (d : Need) → new ≡ old ++ d ∷ [] → HasChain d → IsReached new
-reached_last old new d is chain = subst IsReached (sym is) (length old, d, at_end old d, chain)
-
--- a chain comes to each of them, with one more
-pub each_reached : (old new : List Need) (d : Need) → new ≡ old ++ d ∷ [] → AreReached old → HasChain d → AreReached new
-each_reached old new d is reached chain = subst AreReached (sym is) (all_more HasChain old d reached chain)
-
-pub must_be : (b : Bool) → (b ≡ false → ⊥) → b ≡ true
-must_be true never = refl
-must_be false never = absurd (never refl)
-
--- so many needs are made as locks are gone through
-pub made_count : (needs : List Need) (locks : List Lock) (i : ℕ) → locks_of needs ≡ take i locks → i ≤ length locks → length needs ≡ i
-made_count needs locks i same within = sym (length-map needs (λ (d : Need). d.lock)) ∙ ap length same ∙ length-take-le i locks within
-
 -- one lock of a list more
-pub listed_more : (x : Read) (every : Bool) (section : ℕ) (s : Section) (list next : List Lock) (lock : Lock) (old new : List Listed) (d : Listed) → new ≡ old ++ d ∷ [] → next ≡ list ++ lock ∷ [] → d.lock ≡ lock → AreListed x every section s list old → IsListed x every section s d
-    → AreListed x every section s next new
-listed_more x every section s list next lock old new d is more same all one = record {
+pub listed_more : (x : Read) (section : ℕ) (s : Section) (list next : List Lock) (lock : Lock) (old new : List Listed) (d : Listed) → new ≡ old ++ d ∷ [] → next ≡ list ++ lock ∷ [] → d.lock ≡ lock → AreListed x section s list old → IsListed x section s d
+    → AreListed x section s next new
+listed_more x section s list next lock old new d is more same all one = record {
   locks = ap (map (λ (e : Listed). e.lock)) is ∙ map_more (λ (e : Listed). e.lock) old d ∙ ap (λ (xs : List Lock). xs ++ d.lock ∷ []) all.locks ∙ ap (λ (m : Lock). list ++ m ∷ []) same ∙ sym more;
-  each = subst (λ (xs : List Listed). (n : ℕ) (e : Listed) → slice_get xs n ≡ Some e → IsListed x every section s e) (sym is) (all_more (IsListed x every section s) old d all.each one);
+  each = subst (λ (xs : List Listed). (n : ℕ) (e : Listed) → slice_get xs n ≡ Some e → IsListed x section s e) (sym is) (all_more (IsListed x section s) old d all.each one);
 }
 
 -- one more of the first items of a list
@@ -86,9 +66,9 @@ same_more old new d is locks i e lt same before =
     ap locks_of is ∙ map_more (λ (x : Need). x.lock) old d ∙ ap (λ (xs : List Lock). xs ++ d.lock ∷ []) before ∙ ap (λ (m : Lock). take i locks ++ m ∷ []) same ∙ sym (taken_more locks i e (get_or locks i e) lt refl)
 
 -- one section more
-pub sections_more : (x : Read) (every : Bool) (lists : List (List Lock)) (n : ℕ) (s : Section) (list : List Lock) (old new : List (List Listed)) (ls : List Listed) → new ≡ old ++ ls ∷ [] → slice_get x.lowered.sections n ≡ Some s → slice_get lists n ≡ Some list
-    → AreSections x every lists n old → AreListed x every n s list ls → AreSections x every lists (n + 1) new
-sections_more x every lists n s list old new ls is stands at all one = record {
+pub sections_more : (x : Read) (lists : List (List Lock)) (n : ℕ) (s : Section) (list : List Lock) (old new : List (List Listed)) (ls : List Listed) → new ≡ old ++ ls ∷ [] → slice_get x.lowered.sections n ≡ Some s → slice_get lists n ≡ Some list
+    → AreSections x lists n old → AreListed x n s list ls → AreSections x lists (n + 1) new
+sections_more x lists n s list old new ls is stands at all one = record {
   count = ap length is ∙ length_more old ls ∙ ap (λ k. k + 1) all.count;
   each = λ k t ms ds section with placed.
       ⊎_elim
@@ -99,14 +79,14 @@ sections_more x every lists n s list old new ls is stands at all one = record {
       (get_more old ls k ds (subst (λ (xs : List (List Listed)). slice_get xs k ≡ Some ds) is placed));
 }
   where
-    last : (k : ℕ) (t : Section) (ms : List Lock) (ds : List Listed) → n ≡ k → ls ≡ ds → slice_get x.lowered.sections k ≡ Some t → slice_get lists k ≡ Some ms → AreListed x every k t ms ds
+    last : (k : ℕ) (t : Section) (ms : List Lock) (ds : List Listed) → n ≡ k → ls ≡ ds → slice_get x.lowered.sections k ≡ Some t → slice_get lists k ≡ Some ms → AreListed x k t ms ds
     last k t ms ds place same section with =
         let here : s ≡ t = same_Some _ _ (sym stands ∙ subst (λ m. slice_get x.lowered.sections m ≡ Some t) (sym place) section) in
         let there : list ≡ ms = same_Some _ _ (sym at ∙ subst (λ m. slice_get lists m ≡ Some ms) (sym place) with) in
-        subst (λ m. AreListed x every m t ms ds) place
-        (subst (λ (u : Section). AreListed x every n u ms ds) here
-        (subst (λ (xs : List Lock). AreListed x every n s xs ds) there
-        (subst (λ (xs : List Listed). AreListed x every n s list xs) same one)))
+        subst (λ m. AreListed x m t ms ds) place
+        (subst (λ (u : Section). AreListed x n u ms ds) here
+        (subst (λ (xs : List Lock). AreListed x n s xs ds) there
+        (subst (λ (xs : List Listed). AreListed x n s list xs) same one)))
 
 -- the lists that are fitted to the flow of an analysis are those of its length
 pub fitted_own : (a : ExplainAnalysis) → IsAnalysed a → (k_limit : ℕ) (lists : List (List Lock)) → k_limit ≡ a.k_limit → AreFitted a.lowering a.classes a.flow (length a.lowering.sections) lists

@@ -15,8 +15,6 @@ use Rattle.asl_explain.specs.declared.explained_value.Step.{Step}
 use Rattle.asl_explain.specs.declared.explained_value.Why.{Why}
 use Rattle.asl_explain.specs.declared.explained_value.Why.TheVariants as why
 use Rattle.asl_explain.specs.Chains.{Read, Needs, Stays, Here, Over, IsAccess, FollowsBy, Follows, AreSteps, EndsAt, IsChain}
-use Rattle.asl_explain.specs.declared.exhaustive.NeededAt.{NeededAt}
-use Rattle.asl_explain.specs.Sought.{IsNext, need_at, step_of}
 use Rattle.asl_explain.proofs.Ends.{get_more, at_old, at_end, length_more}
 
 -- a region as the code names it
@@ -129,67 +127,62 @@ module _ (x : Read) where
   front_step (Inside s) pc p m n w needed one stays = record { same = refl; needed = needed; stays = stays; reads = one }
 
   -- an access alone
-  pub chain_alone : (d : NeededAt) → IsAccess x (step_of d why.Accessed) → IsChain x (region_of d.region) d.pc d.lock (step_of d why.Accessed ∷ [])
-  chain_alone d access = record {
-    path = record { begins = λ t at. subst (IsAccess x) (first_same t at) access; follows = λ n before t at next. absurd (none n t next) };
-    ends = record { number = 0; last = refl; step = step_of d why.Accessed; at = refl; region = refl; holds = refl; stays = Here };
-  }
+  chain_one : (r : Region) (pc : ℕ) (lock : Lock) → IsAccess x (step_at r pc lock why.Accessed) → (steps : List Step) × IsChain x r pc lock steps
+  chain_one r pc lock access = (
+    step_at r pc lock why.Accessed ∷ [],
+    record {
+      path = record { begins = λ t at. subst (IsAccess x) (first_same t at) access; follows = λ n before t at next. absurd (none n t next) };
+      ends = record { number = 0; last = refl; step = step_at r pc lock why.Accessed; at = refl; region = named_is r; holds = refl; stays = Here };
+    },
+  )
     where
-      first_same : (t : Step) → slice_get (step_of d why.Accessed ∷ []) 0 ≡ Some t → step_of d why.Accessed ≡ t
+      first_same : (t : Step) → slice_get (step_at r pc lock why.Accessed ∷ []) 0 ≡ Some t → step_at r pc lock why.Accessed ≡ t
       first_same t at = same_Some _ _ at
 
-      none : (n : ℕ) (t : Step) → slice_get (step_of d why.Accessed ∷ []) (suc n) ≡ Some t → ⊥
+      none : (n : ℕ) (t : Step) → slice_get (step_at r pc lock why.Accessed ∷ []) (suc n) ≡ Some t → ⊥
       none n t at = cc
 
-  chain_one : (r : Region) (pc : ℕ) (lock : Lock) → IsAccess x (step_at r pc lock why.Accessed) → (steps : List Step) × IsChain x r pc lock steps
-  chain_one r pc lock access = (_, subst (λ (q : Region). IsChain x q pc lock (step_at r pc lock why.Accessed ∷ [])) (named_is r) (chain_alone (need_at (named r) pc lock) access))
-
   -- a chain with one step more at its end
-  pub chain_then : (d e : NeededAt) (reason : Why) (steps : List Step) → IsChain x (region_of d.region) d.pc d.lock steps → IsNext x reason d e → IsChain x (region_of e.region) e.pc e.lock (steps ++ step_of e reason ∷ [])
-  chain_then d e reason steps chain next = record {
-    path = record {
-      begins = λ t at. ⊎_elim (λ h. chain.path.begins t h) (λ h. absurd (not_empty h.0)) (get_more steps s 0 t at);
-      follows = λ n b t at there. ⊎_elim (λ h. chain.path.follows n b t (kept n b t h at) h) (λ h. last_one n b t h.0 h.1 at) (get_more steps s (suc n) t there);
-    };
-    ends = record { number = length steps; last = longer; step = s; at = at_end steps s; region = refl; holds = refl; stays = Here };
-  }
+  chain_more : (r q : Region) (from pc : ℕ) (before lock : Lock) (reason : Why) (steps : List Step) → IsChain x q from before steps
+      → ((p : ℕ) (w : Why) → Stays x q before from p → FollowsBy reason x (step_at q p before w) (step_at r pc lock reason)) → (all : List Step) × IsChain x r pc lock all
+  chain_more r q from pc before lock reason steps chain next = (
+    steps ++ s ∷ [],
+    record {
+      path = record {
+        begins = λ t at. ⊎_elim (λ h. chain.path.begins t h) (λ h. absurd (not_empty h.0)) (get_more steps s 0 t at);
+        follows = λ n b t at there. ⊎_elim (λ h. chain.path.follows n b t (kept n b t h at) h) (λ h. last_one n b t h.0 h.1 at) (get_more steps s (suc n) t there);
+      };
+      ends = record { number = length steps; last = longer; step = s; at = at_end steps s; region = named_is r; holds = refl; stays = Here };
+    },
+  )
     where
       s : Step
-      s = step_of e reason
+      s = step_at r pc lock reason
 
-      own : EndsAt x (region_of d.region) d.pc d.lock steps
-      own = chain.ends
+      e : EndsAt x q from before steps
+      e = chain.ends
 
       longer : suc (length steps) ≡ length (steps ++ s ∷ [])
       longer = (let l = length_more steps s in omega (arith, l))
 
       not_empty : 0 ≡ length steps → ⊥
-      not_empty none = (let last = own.last in omega (arith, none, last))
+      not_empty none = (let last = e.last in omega (arith, none, last))
 
       kept : (n : ℕ) (b t : Step) → slice_get steps (suc n) ≡ Some t → slice_get (steps ++ s ∷ []) n ≡ Some b → slice_get steps n ≡ Some b
       kept n b t there at =
           let low = slice_get_within steps (suc n) t there in
           ⊎_elim (λ h. h) (λ h. (let same = h.0 in absurd (omega (arith, same, low)))) (get_more steps s n b at)
 
-      step_is : own.step ≡ step_of (need_at d.region own.step.pc d.lock) own.step.why
-      step_is = step_same own.step d.region d.lock (sym (named_of own.step.region) ∙ ap named own.region ∙ named_of d.region) own.holds
+      step_is : e.step ≡ step_at q e.step.pc before e.step.why
+      step_is = step_same e.step (named q) before (sym (named_of e.step.region) ∙ ap named e.region) e.holds
 
       last_one : (n : ℕ) (b t : Step) → suc n ≡ length steps → s ≡ t → slice_get (steps ++ s ∷ []) n ≡ Some b → Follows x b t
       last_one n b t same is at =
-          let last = own.last in
-          let number : own.number ≡ n = omega (arith, same, last) in
-          let there : slice_get (steps ++ s ∷ []) n ≡ Some own.step = subst (λ (m : ℕ). slice_get (steps ++ s ∷ []) m ≡ Some own.step) number (at_old steps s own.number own.step own.at) in
-          let before : b ≡ step_of (need_at d.region own.step.pc d.lock) own.step.why = same_Some _ _ (sym at ∙ there) ∙ step_is in
-          subst (λ (u : Step). Follows x b u) is (subst (λ (u : Step). Follows x u s) (sym before) (next own.step.pc own.step.why own.stays))
-
-  chain_more : (r q : Region) (from pc : ℕ) (before lock : Lock) (reason : Why) (steps : List Step) → IsChain x q from before steps
-      → ((p : ℕ) (w : Why) → Stays x q before from p → FollowsBy reason x (step_at q p before w) (step_at r pc lock reason)) → (all : List Step) × IsChain x r pc lock all
-  chain_more r q from pc before lock reason steps chain next = (
-    _,
-    subst (λ (s : Region). IsChain x s pc lock (steps ++ step_at r pc lock reason ∷ [])) (named_is r)
-        (chain_then (need_at (named q) from before) (need_at (named r) pc lock) reason steps (subst (λ (s : Region). IsChain x s from before steps) (sym (named_is q)) chain)
-        (λ p w stays. next p w (subst (λ (s : Region). Stays x s before from p) (named_is q) stays))),
-  )
+          let last = e.last in
+          let number : e.number ≡ n = omega (arith, same, last) in
+          let there : slice_get (steps ++ s ∷ []) n ≡ Some e.step = subst (λ (m : ℕ). slice_get (steps ++ s ∷ []) m ≡ Some e.step) number (at_old steps s e.number e.step e.at) in
+          let own : b ≡ step_at q e.step.pc before e.step.why = same_Some _ _ (sym at ∙ there) ∙ step_is in
+          subst (λ (u : Step). Follows x b u) is (subst (λ (u : Step). Follows x u s) (sym own) (next e.step.pc e.step.why e.stays))
 
   pub chain_found : (r : Region) (pc : ℕ) (lock : Lock) → Needs x r pc lock → (steps : List Step) × IsChain x r pc lock steps
   chain_found _ _ _ (Accessed r f pc i n isin at one) = chain_one r pc n (access_step r f pc i n isin at one)

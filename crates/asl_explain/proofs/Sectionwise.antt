@@ -46,7 +46,7 @@ module _ (x : Read) (lists : List (List Lock)) (g : Given) where
       record {
         sections = before.sections ++ one.listed ∷ [];
         ended = before.ended ++ one.ended ∷ [];
-        made = sections_more x g.all lists n s list before.sections _ one.listed refl stands at before.made one.made;
+        made = sections_more x lists n s list before.sections _ one.listed refl stands at before.made one.made;
         ends = below_more x n before.ended _ one.ended refl before.ends one.ends;
         tells = subst (λ (ps : List Part). Tells ps [] new) (sym whole) (tells_then (sections_told g 0 before.sections before.ended) (section_told g n one.listed one.ended) [] old new before.tells one.tells);
       }

@@ -1,5 +1,5 @@
 -- Machinery of the proofs, not of the promise: what is known of an analysis (src/explain_analysis.rt).
-use Rattle.std.specs.Prelude.{◌≡◌, ◌↔◌, ◌<◌, ◌≤◌, ◌⊎◌, ℕ, suc, Bool, List, [], ◌∷◌, length, map, Some, slice_get}
+use Rattle.std.specs.Prelude.{◌≡◌, ◌↔◌, ◌<◌, ◌≤◌, ◌⊎◌, ℕ, List, [], ◌∷◌, length, map, Some, IfSome, slice_get}
 use Rattle.std.specs.List.{All}
 use Rattle.asl_code.specs.declared.instr.Instr.{Instr}
 use Rattle.asl_code.specs.declared.instr.Instr.TheVariants.{New, Release}
@@ -9,7 +9,7 @@ use Rattle.asl_syntax.specs.Tree.{Item}
 use Rattle.asl_syntax.specs.Parsed.{Parses}
 use Rattle.asl_lower.specs.Lowered.{Lowered, IsLowering}
 use Rattle.asl_lower.specs.OpenSections.{FlowsTo}
-use Rattle.asl_lower.specs.Regions.{IsIn, Inside}
+use Rattle.asl_lower.specs.Regions.{IsIn}
 use Rattle.asl_points_to.specs.Classes.{Classed, AreClasses}
 use Rattle.asl_emitter.specs.Refused.{IsAccepted}
 use Rattle.asl_lock_expr.specs.Links.{LinkContext, IsOne, link}
@@ -28,9 +28,8 @@ use Rattle.asl_explain.specs.declared.explained_value.Lists.TheVariants.{Inferre
 use Rattle.asl_explain.specs.declared.explained_value.Explanation.{Explanation}
 use Rattle.asl_explain.specs.declared.walk.Span.{Span}
 use Rattle.asl_explain.specs.declared.stretch.Stretch.{Stretch}
-use Rattle.asl_soundness.specs.Covering.{CoversLock}
-use Rattle.asl_explain.specs.Chains.{Read, Needs, Stays}
-use Rattle.asl_explain.specs.Explained.{IsListed, IsEnded, AreEnded, AreAllEnded}
+use Rattle.asl_explain.specs.Chains.{Read, Stays}
+use Rattle.asl_explain.specs.Explained.{IsListed, IsEnding, AreEnded, AreAllEnded}
 
 -- what the needs of an analysis are read against
 abbrev pub read : ExplainAnalysis → Read
@@ -43,34 +42,26 @@ pub record IsAnalysed (a : ExplainAnalysis) : Type 0 where
   pub tells : TellsNeeded a.lowering a.classes (stores a.writes) a.k_limit a.flow
   pub flow : IsFlow a.lowering a.classes a.k_limit a.flow
 
--- the lock covers one that the section needs at its start
-abbrev pub CoversNeed : Read → ℕ → Section → Lock → Type 0
-CoversNeed x section is lock = (n : Lock) × Needs x (Inside section) (suc is.acquire) n × CoversLock x.classes is.function lock n
-
--- so each lock of the list
-abbrev pub AreCovering : Read → ℕ → Section → List Lock → Type 0
-AreCovering x section is list = (lock : Lock) → IsOne list lock → CoversNeed x section is lock
-
 -- the locks of a section's list, in their order, with what each covers
-pub record AreListed (x : Read) (all : Bool) (section : ℕ) (is : Section) (list : List Lock) (ls : List Listed) : Type 0 where
+pub record AreListed (x : Read) (section : ℕ) (is : Section) (list : List Lock) (ls : List Listed) : Type 0 where
   pub locks : map (λ (d : Listed). d.lock) ls ≡ list
-  pub each : (n : ℕ) (d : Listed) → slice_get ls n ≡ Some d → IsListed x all section is d
+  pub each : (n : ℕ) (d : Listed) → slice_get ls n ≡ Some d → IsListed x section is d
 
 -- so of the first sections, so many of them
-pub record AreSections (x : Read) (all : Bool) (lists : List (List Lock)) (so_many : ℕ) (sections : List (List Listed)) : Type 0 where
+pub record AreSections (x : Read) (lists : List (List Lock)) (so_many : ℕ) (sections : List (List Listed)) : Type 0 where
   pub count : length sections ≡ so_many
   pub each : (n : ℕ) (is : Section) (list : List Lock) (ls : List Listed) → slice_get x.lowered.sections n ≡ Some is → slice_get lists n ≡ Some list →
-      slice_get sections n ≡ Some ls → AreListed x all n is list ls
+      slice_get sections n ≡ Some ls → AreListed x n is list ls
 
 -- the locks that end in the first sections, so many of them
 pub record AreEndedBelow (x : Read) (so_many : ℕ) (sections : List (List Ended)) : Type 0 where
   pub count : length sections ≡ so_many
   pub each : (section : ℕ) (ended : List Ended) → slice_get sections section ≡ Some ended → AreEnded x section ended
 
--- these locks, of which each ends
+-- these locks; and where one is told to end, it ends there
 pub record AreEndedOf (x : Read) (section : ℕ) (locks : List Lock) (ended : List Ended) : Type 0 where
   pub same : map (λ (e : Ended). e.lock) ended ≡ locks
-  pub each : (n : ℕ) (e : Ended) → slice_get ended n ≡ Some e → IsEnded x section e
+  pub told : (n : ℕ) (e : Ended) → slice_get ended n ≡ Some e → IfSome e.ending (IsEnding x section e.lock)
 
 -- a `new` inside the section sets the register at the pc
 pub record IsMadeAt (x : Read) (s : Section) (pc register : ℕ) : Type 0 where
@@ -98,11 +89,11 @@ AreFittedFrom l c k_limit lists = (longer : ℕ) → k_limit ≤ longer → AreF
 abbrev pub AreEachFitted : Lowered → Classed → List Lists → Type 0
 AreEachFitted l c all = (k_limit : ℕ) (lists : Lists) → slice_get all k_limit ≡ Some lists → AreFittedAt l c k_limit lists
 
--- the explanation that is made of an analysis, with a chain to each need where all are asked for
-pub record IsMade (a : ExplainAnalysis) (all : Bool) (e : Explanation) : Type 0 where
+-- the explanation that is made of an analysis
+pub record IsMade (a : ExplainAnalysis) (e : Explanation) : Type 0 where
   pub lists : List (List Lock)
   pub fitted : AreFitted a.lowering a.classes a.flow (length a.lowering.sections) lists
-  pub sections : AreSections (read a) all lists (length a.lowering.sections) e.sections
+  pub sections : AreSections (read a) lists (length a.lowering.sections) e.sections
   pub ended : AreAllEnded (read a) e.ended
   pub count : length e.by_length ≡ 9
   pub each : (k_limit : ℕ) (l : Lists) → slice_get e.by_length k_limit ≡ Some l → AreFittedAt a.lowering a.classes k_limit l

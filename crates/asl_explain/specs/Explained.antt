@@ -1,5 +1,5 @@
 -- What an explanation says of a source (docs/ANALYSIS.md, "Explanations").
-use Rattle.std.specs.Prelude.{◌≡◌, ◌↔◌, ◌<◌, ℕ, suc, Bool, true, List, length, map, Some, slice_get}
+use Rattle.std.specs.Prelude.{◌≡◌, ◌↔◌, ℕ, suc, List, length, map, Some, IfSome, slice_get}
 use Rattle.asl_code.specs.declared.image.Image.{Image}
 use Rattle.asl_code.specs.declared.lock.Lock.{Lock}
 use Rattle.asl_syntax.specs.Tree.{Item}
@@ -46,40 +46,27 @@ IsOneOf needs lock = (n : ℕ) × (d : Need) × (slice_get needs n ≡ Some d) �
 abbrev pub locks_of : List Need → List Lock
 locks_of needs = map (λ (d : Need). d.lock) needs
 
--- a chain comes to the need
-abbrev pub HasChain : Need → Type 0
-HasChain d = 0 < length d.chains
-
--- a chain comes to one of the needs
-abbrev pub IsReached : List Need → Type 0
-IsReached needs = (n : ℕ) × (d : Need) × (slice_get needs n ≡ Some d) × HasChain d
-
--- a chain comes to each of the needs
-abbrev pub AreReached : List Need → Type 0
-AreReached needs = (n : ℕ) (d : Need) → slice_get needs n ≡ Some d → HasChain d
-
--- under the lock stand the needs that it covers, and no others, each once; a chain comes to one of them, and to each where all are asked for
-pub record IsListed (x : Read) (all : Bool) (section : ℕ) (is : Section) (d : Listed) : Type 0 where
+-- under the lock stand the needs that it covers, and no others, each once
+pub record IsListed (x : Read) (section : ℕ) (is : Section) (d : Listed) : Type 0 where
   pub needs : AreNeeds x section is d.needs
   pub under : (lock : Lock) → IsOneOf d.needs lock ↔ (Needs x (Inside section) (suc is.acquire) lock × CoversLock x.classes is.function d.lock lock)
   pub order : AreInOrder (locks_of d.needs)
-  pub reached : IsReached d.needs
-  pub each : all ≡ true → AreReached d.needs
 
 -- the lists of the image, and under each lock what it covers
-pub record AreExplained (x : Read) (all : Bool) (image : Image) (sections : List (List Listed)) : Type 0 where
+pub record AreExplained (x : Read) (image : Image) (sections : List (List Listed)) : Type 0 where
   pub lists : map (λ (ls : List Listed). map (λ (d : Listed). d.lock) ls) sections ≡ image.lists
   pub each : (section : ℕ) (is : Section) (ls : List Listed) (n : ℕ) (d : Listed) → slice_get x.lowered.sections section ≡ Some is → slice_get sections section ≡ Some ls →
-      slice_get ls n ≡ Some d → IsListed x all section is d
+      slice_get ls n ≡ Some d → IsListed x section is d
 
 -- a chain comes from an access to the lock after the `new`, at which the lock ends
 pub record IsEnding (x : Read) (section : ℕ) (lock : Lock) (e : Ending) : Type 0 where
   pub chain : IsChain x (Inside section) (suc e.pc) lock e.chain.steps
   pub dropped : IsDropped x section e.pc lock
 
--- the lock ends at the `new` that is told
-abbrev pub IsEnded : Read → ℕ → Ended → Type 0
-IsEnded x section e = IsEnding x section e.lock e.ending
+-- the lock ends at a `new` of the section, and at the one that is told, if one is
+pub record IsEnded (x : Read) (section : ℕ) (e : Ended) : Type 0 where
+  pub dropped : (pc : ℕ) × IsDropped x section pc e.lock
+  pub told : IfSome e.ending (IsEnding x section e.lock)
 
 -- the locks that end at a `new` of the section: all of them, each once
 pub record AreEnded (x : Read) (section : ℕ) (ended : List Ended) : Type 0 where
@@ -107,21 +94,21 @@ pub record AreByLength (tree : List Item) (lists : List Lists) : Type 0 where
 abbrev pub read_of : {tree : List Item} → Analysis tree → ℕ → Read
 read_of analysis k_limit = record { lowered = analysis.program.lowering; classes = analysis.program.classes; stores = analysis.stores; k_limit = k_limit }
 
--- the explanation of a tree, with a chain to each need where all are asked for
-pub record IsExplained (tree : List Item) (k_limit : ℕ) (all : Bool) (e : Explanation) : Type 0 where
+-- the explanation of a tree
+pub record IsExplained (tree : List Item) (k_limit : ℕ) (e : Explanation) : Type 0 where
   pub analysis : Analysis tree
   pub image : Image
   pub inferred : IsInferredFor tree k_limit image
-  pub sections : AreExplained (read_of analysis k_limit) all image e.sections
+  pub sections : AreExplained (read_of analysis k_limit) image e.sections
   pub ended : AreAllEnded (read_of analysis k_limit) e.ended
   pub by_length : AreByLength tree e.by_length
 
 -- the source spells a tree, for which lists are inferred, and this is its explanation
-pub record IsExplanation (source : List ℕ) (k_limit : ℕ) (all : Bool) (e : Explanation) : Type 0 where
+pub record IsExplanation (source : List ℕ) (k_limit : ℕ) (e : Explanation) : Type 0 where
   pub tree : List Item
   pub parsed : Parses source tree
   pub accepted : IsAccepted tree k_limit
-  pub explained : IsExplained tree k_limit all e
+  pub explained : IsExplained tree k_limit e
 
 -- what each refusal says of the source
 abbrev pub IsRefusedExplanation : List ℕ → ℕ → ExplainFault → Type 0

@@ -9,7 +9,6 @@ pub mod Gaps
 pub mod Known
 pub mod Lengths
 pub mod Opened
-pub mod Sought
 pub mod Telling
 pub mod TellingChains
 pub mod TellingLists

@@ -1,8 +1,7 @@
 -- Machinery of the proofs, not of the promise: an explanation whose sections are asked for one after the other (src/opened_explanation.rt).
-use Rattle.std.specs.Prelude.{◌≡◌, ℕ, true, List, length, Some, slice_get}
+use Rattle.std.specs.Prelude.{◌≡◌, ℕ, List, length, Some, slice_get}
 use Rattle.asl_code.specs.declared.lock.Lock.{Lock}
 use Rattle.asl_lower.specs.declared.section.Section.{Section}
-use Rattle.asl_emitter.specs.BuiltImage.{AreFitted}
 use Rattle.asl_emitter.specs.Sources.{IsAcceptedSource}
 use Rattle.asl_explain.specs.declared.explain_analysis.ExplainAnalysis.{ExplainAnalysis}
 use Rattle.asl_explain.specs.declared.explained_value.Ended.{Ended}
@@ -26,16 +25,16 @@ pub record IsSectionOf (o : OpenedExplanation) (number : ℕ) (listed : List Lis
   pub stands : slice_get o.analysis.lowering.sections number ≡ Some is
   pub list : List Lock
   pub at : slice_get o.lists number ≡ Some list
-  pub explained : AreListed (read o.analysis) true number is list listed
+  pub explained : AreListed (read o.analysis) number is list listed
 
 -- these are the first sections, so many of them
 abbrev pub AreSectionsOf : OpenedExplanation → ℕ → List (List Listed) → Type 0
-AreSectionsOf o so_many sections = AreSections (read o.analysis) true o.lists so_many sections
+AreSectionsOf o so_many sections = AreSections (read o.analysis) o.lists so_many sections
 
--- it has the list of each section of an analysis
+-- it has a list for each section of an analysis
 pub record IsReady (o : OpenedExplanation) : Type 0 where
   pub analysed : IsAnalysed o.analysis
-  pub fitted : AreFitted o.analysis.lowering o.analysis.classes o.analysis.flow (section_count o) o.lists
+  pub count : length o.lists ≡ section_count o
 
 -- what the search knows of steps is so
 abbrev pub IsSearchOf : OpenedExplanation → SectionSearch → Type 0
@@ -45,7 +44,7 @@ IsSearchOf o s = AreKnown (read o.analysis) s.known
 pub record IsOpened (source : List ℕ) (k_limit : ℕ) (o : OpenedExplanation) : Type 0 where
   pub ready : IsReady o
   pub accepted : IsAcceptedSource source k_limit
-  pub explains : (sections : List (List Listed)) → AreSectionsOf o (section_count o) sections → (e : Explanation) × IsExplanation source k_limit true e × (e.sections ≡ sections)
+  pub explains : (sections : List (List Listed)) → AreSectionsOf o (section_count o) sections → (e : Explanation) × IsExplanation source k_limit e × (e.sections ≡ sections)
 
 -- ---- what an explanation has beside its sections
 

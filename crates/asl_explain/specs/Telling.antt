@@ -37,7 +37,7 @@ given t = record {
 pub record TellsSection (x : Read) (section : ℕ) (is : Section) (list : List Lock) (g : Given) (old new : List ℕ) : Type 0 where
   pub listed : List Listed
   pub ended : List Ended
-  pub made : AreListed x g.all section is list listed
+  pub made : AreListed x section is list listed
   pub ends : AreEnded x section ended
   pub tells : Tells (section_told g section listed ended) old new
 
@@ -45,7 +45,7 @@ pub record TellsSection (x : Read) (section : ℕ) (is : Section) (list : List L
 pub record TellsSections (x : Read) (lists : List (List Lock)) (g : Given) (so_many : ℕ) (text : List ℕ) : Type 0 where
   pub sections : List (List Listed)
   pub ended : List (List Ended)
-  pub made : AreSections x g.all lists so_many sections
+  pub made : AreSections x lists so_many sections
   pub ends : AreEndedBelow x so_many ended
   pub tells : Tells (sections_told g 0 sections ended) [] text
 
@@ -68,7 +68,7 @@ pub record AreToldBy (r : Reasoned) (all : Bool) (lists : List (List Lock)) (cou
 -- the text tells the explanation that is made of an analysis, and ends with what the source may lack
 pub record IsTextOf (a : ExplainAnalysis) (source : List ℕ) (all : Bool) (text : List ℕ) : Type 0 where
   pub explanation : Explanation
-  pub made : IsMade a all explanation
+  pub made : IsMade a explanation
   pub reasoned : Reasoned
   pub reasons : IsReasoned source reasoned
   pub classes : List (Option ClassTold)

@@ -315,9 +315,10 @@ made_words m function (Root effect) = []
 abbrev pub new_line : Facts → ℕ → List ℕ
 new_line f pc = place_columns f pc ++ (padded 8 (codes "ends") ++ codes "the object is new here: no lock\n")
 
--- the chain of a lock that ends, and the line of the `new`
-abbrev pub ending_lines : Bool → Facts → Ending → List Part
-ending_lines all f e = chain_lines all f e.chain.steps ++ Words (new_line f e.pc) ∷ []
+-- the chain of a lock that ends, and the line of the `new`, if they are told
+abbrev pub ending_lines : Bool → Facts → Option Ending → List Part
+ending_lines all f None = []
+ending_lines all f (Some e) = chain_lines all f e.chain.steps ++ Words (new_line f e.pc) ∷ []
 
 -- the line of a lock of a function that ends at a `new`
 abbrev pub ended_line : Facts → ℕ → Lock → List ℕ
@@ -381,7 +382,7 @@ parting_words (c ∷ front) (d ∷ behind) = codes "\n"
 -- length; it ends with what the source may lack
 pub record IsText (source : List ℕ) (k_limit : ℕ) (all : Bool) (text : List ℕ) : Type 0 where
   pub explanation : Explanation
-  pub explains : IsExplanation source k_limit all explanation
+  pub explains : IsExplanation source k_limit explanation
   pub reasoned : Reasoned
   pub reasons : IsReasoned source reasoned
   pub classes : List (Option ClassTold)

@@ -135,7 +135,7 @@ pub fn made_inside(analysis: &ExplainAnalysis, section: Section, pc: u16) -> Opt
 
 /// Whether a `new` of the section of a number stands at the pc, after which the section needs the lock, and whose register the
 /// lock begins on.
-pub fn is_dropped(
+fn is_dropped(
     analysis: &ExplainAnalysis,
     number: u16,
     section: Section,
@@ -144,7 +144,7 @@ pub fn is_dropped(
 ) -> bool
     requires analysed { IsAnalysed analysis.now }
     requires there { slice_get analysis.now.lowering.sections number ≡ Some section }
-    ensures { IsTrue result ↔ IsDropped (read analysis.now) number pc lock.now }
+    ensures { IsTrue result → IsDropped (read analysis.now) number pc lock.now }
 {
     let Some(to) = made_inside(analysis, section, pc) else {
         return false;

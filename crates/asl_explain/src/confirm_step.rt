@@ -1,5 +1,5 @@
 //! Whether a step of a chain follows from the one before it, looked at again without the search.
-ghost use Rattle.std.specs.Prelude.{◌≡◌, ◌↔◌, ◌<◌, ℕ, Some, IfOk, IfSome, OnOk, IsTrue, length, slice_get};
+ghost use Rattle.std.specs.Prelude.{◌≡◌, ◌<◌, ℕ, Some, IfOk, IfSome, OnOk, IsTrue, length, slice_get};
 ghost use Rattle.asl_code.specs.declared.image.Function.{Function};
 ghost use Rattle.asl_code.specs.declared.instr.Instr.{Instr};
 ghost use Rattle.asl_lower.specs.OpenSections.{FlowsTo, start_of};
@@ -22,7 +22,7 @@ use std::alloc::{AllocError, Global};
 /// Whether the region needs the lock at the pc.
 pub(crate) fn is_needed(analysis: &ExplainAnalysis, region: Region, pc: u32, lock: &Lock) -> bool
     requires { IsAnalysed analysis.now }
-    ensures { IsTrue result ↔ Needs (read analysis.now) (region_of region) pc lock.now }
+    ensures { IsTrue result → Needs (read analysis.now) (region_of region) pc lock.now }
 {
     let flow = &analysis.flow;
     let Some(place) = flow.place(region) else {
@@ -38,7 +38,7 @@ pub(crate) fn is_needed(analysis: &ExplainAnalysis, region: Region, pc: u32, loc
 }
 
 /// The function of a region, if the region is there.
-pub(crate) fn function_of(analysis: &ExplainAnalysis, region: Region) -> Option<u16>
+fn function_of(analysis: &ExplainAnalysis, region: Region) -> Option<u16>
     ensures { (function pc : ℕ) → IsIn analysis.now.lowering (region_of region) function pc → result ≡ Some function }
 {
     match region {

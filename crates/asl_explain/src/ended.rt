@@ -1,15 +1,12 @@
 //! The needs that end at a `new`, since the object is new there.
 ghost use Rattle.std.specs.Prelude.{◌≡◌, ◌↔◌, ℕ, [], Some, IfOk, IfSome, OnOk, IsTrue, slice_get};
-ghost use Rattle.asl_code.specs.declared.lock.Lock.{Lock as AnyLock};
-ghost use Rattle.asl_lock_expr.specs.Links.{IsOne};
 ghost use Rattle.asl_lock_expr.specs.Order.{AreInOrder};
 ghost use Rattle.asl_explain.specs.Chains.{IsDropped};
-ghost use Rattle.asl_explain.specs.Explained.{IsEnded, IsEnding, AreEnded, AreAllEnded};
+ghost use Rattle.asl_explain.specs.Explained.{IsEnding, AreEnded, AreAllEnded};
 ghost use Rattle.asl_explain.specs.Analysed.{read, IsAnalysed, IsMadeAt, HasAdded, AreEndedOf};
 ghost use Rattle.asl_explain.specs.Endings.{Has, IsPlaceOf, IsLockAt, EndsSomewhere};
 
-use crate::confirm::{is_dropped, is_ending, is_on, made_at, made_inside};
-use crate::exhaustive::{exhaustive_chain, pc_after};
+use crate::confirm::{is_ending, is_on, made_at, made_inside};
 use crate::explain_analysis::ExplainAnalysis;
 use crate::explained_value::{Ended, Ending};
 use crate::links::copied;
@@ -139,50 +136,6 @@ pub(crate) fn ended_locks(
     }
 }
 
-/// One of these `new`, which has each of the section, after which the section needs a lock that ends.
-fn drop_of(
-    analysis: &ExplainAnalysis,
-    number: u16,
-    section: Section,
-    news: &[u16],
-    lock: &Lock,
-) -> u16
-    requires analysed { IsAnalysed analysis.now }
-    requires there { slice_get analysis.now.lowering.sections number ≡ Some section }
-    requires news { (pc to : ℕ) → IsMadeAt (read analysis.now) section pc to → Has pc news.now }
-    requires ends { EndsSomewhere (read analysis.now) number lock.now }
-    ensures { IsDropped (read analysis.now) number result lock.now }
-{
-    for pc in news {
-        if is_dropped(analysis, number, section, *pc, lock) {
-            return *pc;
-        }
-    }
-    unreachable!()
-}
-
-/// A `new` at which a lock ends, and a chain to the lock after it, found by going through all needs.
-fn some_ending(
-    alloc: Global,
-    analysis: &ExplainAnalysis,
-    number: u16,
-    section: Section,
-    news: &[u16],
-    lock: &Lock,
-) -> Result<Ending, AllocError>
-    requires analysed { IsAnalysed analysis.now }
-    requires there { slice_get analysis.now.lowering.sections number ≡ Some section }
-    requires news { (pc to : ℕ) → IsMadeAt (read analysis.now) section pc to → Has pc news.now }
-    requires ends { EndsSomewhere (read analysis.now) number lock.now }
-    ensures { IfOk result (IsEnding (read analysis.now) number lock.now) }
-{
-    let pc = drop_of(analysis, number, section, news, lock);
-    let region = Region::Section(number);
-    let after = pc_after(analysis, region, pc, lock);
-    let chain = exhaustive_chain(alloc, analysis, region, after, lock)?;
-    Ok(Ending { pc, chain })
-}
-
 /// The `new` and the chain that a search found, if the chain comes to the lock after the `new`, and the lock ends there.
 fn confirmed_ending(
     alloc: Global,
@@ -206,7 +159,7 @@ fn confirmed_ending(
     }
 }
 
-/// A lock that the section of a number needs after a `new`, with a chain that comes to it there: the cheapest, as far as a search finds it.
+/// A lock that the section of a number needs after a `new`, with the cheapest chain that comes to it there, if a search finds one.
 fn find_ended(
     alloc: Global,
     analysis: &ExplainAnalysis,
@@ -218,23 +171,18 @@ fn find_ended(
 ) -> Result<Ended, AllocError>
     requires analysed { IsAnalysed analysis.now }
     requires there { slice_get analysis.now.lowering.sections number ≡ Some section }
-    requires news { (pc to : ℕ) → IsMadeAt (read analysis.now) section pc to → Has pc news.now }
-    requires ends { EndsSomewhere (read analysis.now) number lock.now }
     ensures lock { IfOk result (λ e. e.lock ≡ lock.now) }
-    ensures ended { IfOk result (IsEnded (read analysis.now) number) }
+    ensures told { IfOk result (λ e. IfSome e.ending (IsEnding (read analysis.now) number e.lock)) }
 {
     let found = searcher.ending(analysis, number, section, news, lock)?;
-    let ending = match confirmed_ending(alloc, analysis, number, section, lock, found)? {
-        Some(ending) => ending,
-        None => some_ending(alloc, analysis, number, section, news, lock)?,
-    };
+    let ending = confirmed_ending(alloc, analysis, number, section, lock, found)?;
     Ok(Ended {
         lock: copied(lock)?,
         ending,
     })
 }
 
-/// These locks, each with a chain that comes to it after a `new` of the section of a number.
+/// These locks, each with the cheapest chain that comes to it after a `new` of the section of a number, if a search finds one.
 fn all_ended(
     alloc: Global,
     analysis: &ExplainAnalysis,
@@ -245,7 +193,6 @@ fn all_ended(
 ) -> Result<Items<Ended>, AllocError>
     requires analysed { IsAnalysed analysis.now }
     requires there { slice_get analysis.now.lowering.sections number ≡ Some section }
-    requires ends { (m : AnyLock) → IsOne locks.now m → EndsSomewhere (read analysis.now) number m }
     ensures { IfOk result (AreEndedOf (read analysis.now) number locks.now) }
 {
     let news = news_of(alloc, analysis, section)?;

@@ -1,6 +1,5 @@
 //! The explanation of a source.
-ghost use Rattle.std.specs.Prelude.{◌≡◌, ◌≤◌, ◌++◌, true, IfOk, IfErr, OnOk, length, string_bytes};
-ghost use Rattle.asl_emitter.specs.BuiltImage.{AreFitted};
+ghost use Rattle.std.specs.Prelude.{◌≡◌, ◌≤◌, ◌++◌, IfOk, IfErr, OnOk, length, string_bytes};
 ghost use Rattle.asl_emitter.specs.Sources.{IsAcceptedSource};
 ghost use Rattle.asl_explain.specs.Explained.{IsExplanation, IsRefusedExplanation};
 ghost use Rattle.asl_warnings.specs.Texts.{warnings_text};
@@ -52,7 +51,7 @@ pub(crate) fn analysis_of(
 /// The first fault of the source, as `compile` answers it; `OutOfMemory` where an allocation failed.
 pub fn explain(alloc: Global, source: &[u8], k: u32) -> Result<Explanation, ExplainFault>
     requires { k ≤ 8 }
-    ensures explained { IfOk result (IsExplanation source.now k true) }
+    ensures explained { IfOk result (IsExplanation source.now k) }
     ensures refused { IfErr result (IsRefusedExplanation source.now k) }
 {
     let analysis = analysis_of(alloc, source, k)?;
@@ -134,7 +133,7 @@ fn lists_text(
     all: bool,
 ) -> Result<String, AllocError>
     requires analysed { IsAnalysed analysis.now }
-    requires fitted { AreFitted analysis.now.lowering analysis.now.classes analysis.now.flow (length analysis.now.lowering.sections) lists.now }
+    requires count { length lists.now ≡ length analysis.now.lowering.sections }
     ensures { IfOk result (λ text. TellsSections (read analysis.now) lists.now (record { facts = reasoned.now.known.facts; k_limit = analysis.now.k_limit; by_length = by_length.now; classes = told.now; all = all }) (length analysis.now.lowering.sections) (string_bytes text)) }
 {
     let places = places_of(alloc, reasoned)?;

@@ -1,8 +1,7 @@
 //! The text of an explanation: one section after the other is explained, told, and let go.
 ghost use Rattle.std.specs.Prelude.{◌≡◌, ◌++◌, Some, IfOk, OnOk, length, slice_get, string_bytes};
 ghost use Rattle.std.specs.List.{flat_map};
-ghost use Rattle.asl_emitter.specs.BuiltImage.{AreFitted};
-ghost use Rattle.asl_explain.specs.Analysed.{read, AreCovering, IsAnalysed};
+ghost use Rattle.asl_explain.specs.Analysed.{read, IsAnalysed};
 ghost use Rattle.asl_explain.specs.Known.{AreKnown};
 ghost use Rattle.asl_explain.specs.Told.{section_in, section_words, count_words, head_told, lock_told, section_told};
 ghost use Rattle.asl_explain.specs.ClassReasons.{lock_block};
@@ -28,7 +27,7 @@ pub fn text_of(
     lists: &[Items<Lock>],
 ) -> Result<String, AllocError>
     requires analysed { IsAnalysed analysis.now }
-    requires fitted { AreFitted analysis.now.lowering analysis.now.classes analysis.now.flow (length analysis.now.lowering.sections) lists.now }
+    requires count { length lists.now ≡ length analysis.now.lowering.sections }
     ensures { IfOk result (λ text. TellsSections (read analysis.now) lists.now (given teller.now) (length analysis.now.lowering.sections) (string_bytes text)) }
 {
     let mut searcher = searcher_of(teller, analysis)?;
@@ -74,13 +73,11 @@ fn push_explained(
     requires analysed { IsAnalysed analysis.now }
     requires there { slice_get analysis.now.lowering.sections number ≡ Some section }
     requires known { AreKnown (read analysis.now) known.old }
-    requires covers { AreCovering (read analysis.now) number section list.now }
     ensures known { OnOk result (AreKnown (read analysis.now) known.new) }
     ensures tells { OnOk result (TellsSection (read analysis.now) number section list.now (given teller.now) (string_bytes text.old) (string_bytes text.new)) }
 {
     let alloc = teller.alloc;
-    let all = teller.all;
-    let listed = explained_section(alloc, analysis, searcher, known, number, section, list, all)?;
+    let listed = explained_section(alloc, analysis, searcher, known, number, section, list)?;
     let ended = ended_of(alloc, analysis, searcher, number, section)?;
     push_section(
         teller,

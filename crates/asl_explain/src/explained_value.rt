@@ -70,8 +70,8 @@ pub struct Ending {
 pub struct Ended {
     /// The lock.
     pub lock: Lock,
-    /// Where a need of it ends.
-    pub ending: Ending,
+    /// Where a need of it ends, if a search found a chain.
+    pub ending: Option<Ending>,
 }
 
 /// The lists that are inferred with paths of a length, or why there are none.

@@ -1,9 +1,8 @@
 //! What is known of the steps of chains and of the ways between them, so that those in bodies are not looked at again for each section.
 ghost use Rattle.std.specs.Prelude.{◌≡◌, IsTrue, IfOk, OnOk};
 ghost use Rattle.asl_backward_flow.specs.Needed.{region_of};
-ghost use Rattle.asl_explain.specs.declared.explained_value.Step.{Step as StepValue};
 ghost use Rattle.asl_explain.specs.Chains.{Read, Stays, Follows};
-ghost use Rattle.asl_explain.specs.Known.{AreKnown, MayFollow, IsKeptLast};
+ghost use Rattle.asl_explain.specs.Known.{AreKnown};
 
 use crate::explained_value::{Step, Why};
 use crate::links::{are_same, copied};
@@ -13,20 +12,14 @@ use asl_code::{Base, Effect, Lock, Op};
 use std::alloc::{AllocError, Global};
 use std::collections::HashMap;
 
-/// So many ways are kept.
-const MOST_WAYS: usize = 65536;
+/// So many ways, and so many pairs of steps, are kept.
+const MOST_KEPT: usize = 65536;
 
-/// So many steps are kept: of 255 chains, a list's, with 10,000 steps each.
-const MOST_STEPS: usize = 2621440;
-
-/// Of so many steps that follow one another the place of one is kept.
-const STEPS_OF_PLACE: usize = 16;
-
-/// A step that is kept, and whether it follows from the one that is kept before it.
+/// A step, and the one that it follows from.
 #[derive(Drop)]
-pub struct KeptStep {
+pub struct Pair {
+    pub before: Step,
     pub step: Step,
-    pub follows: bool,
 }
 
 /// Ways over which locks stay, and steps that follow from others.
@@ -36,13 +29,11 @@ pub struct Known {
     pub recent: Vec<Stretch>,
     /// Ways in bodies.
     pub ways: Vec<Stretch>,
-    /// Steps in bodies, one behind the other as they follow in chains.
-    pub steps: Vec<KeptStep>,
-    /// Where ways are kept, and some of the steps, by their codes.
+    /// Steps in bodies.
+    pub pairs: Vec<Pair>,
+    /// Where ways and steps are kept, by their codes.
     way_places: HashMap<u64, usize>,
-    step_places: HashMap<u64, usize>,
-    /// The place of the step that was found or kept last: the next of the chain may stand behind it.
-    last: usize,
+    pair_places: HashMap<u64, usize>,
 }
 
 /// A code with one number more.
@@ -126,6 +117,13 @@ fn same_step(step: &Step) -> Result<Step, AllocError>
     })
 }
 
+/// Whether the pair is of these steps.
+fn is_pair(pair: &Pair, before: &Step, step: &Step) -> bool
+    ensures { IsTrue result → (pair.now.before ≡ before.now) × (pair.now.step ≡ step.now) }
+{
+    is_step(&pair.step, step) && is_step(&pair.before, before)
+}
+
 /// The same way.
 fn same_way(way: &Stretch) -> Result<Stretch, AllocError>
     ensures { IfOk result (λ s. s ≡ way.now) }
@@ -146,10 +144,9 @@ impl Known {
         Known {
             recent: Vec::new(alloc),
             ways: Vec::new(alloc),
-            steps: Vec::new(alloc),
+            pairs: Vec::new(alloc),
             way_places: HashMap::new(alloc),
-            step_places: HashMap::new(alloc),
-            last: 0,
+            pair_places: HashMap::new(alloc),
         }
     }
 
@@ -167,94 +164,23 @@ impl Known {
     }
 
     /// Whether a step is known to follow from the one before it.
-    pub fn has_pair(&mut self, before: &Step, step: &Step) -> bool
-        ensures known { (x : Read) → AreKnown x self.old → AreKnown x self.new }
-        ensures follows { IsTrue result → (x : Read) → AreKnown x self.old → Follows x before.now step.now }
-    {
-        let next = self.last.saturating_add(1);
-        if self.is_at(next, before, step) {
-            self.last = next;
-            return true;
-        }
-        let Some(place) = self.step_places.get(&pair_code(before, step)) else {
-            return false;
-        };
-        if !self.is_at(*place, before, step) {
-            return false;
-        }
-        self.last = *place;
-        true
-    }
-
-    /// Whether this step is kept in a place, and follows from the one before it, which is this one.
-    fn is_at(&self, place: usize, before: &Step, step: &Step) -> bool
+    pub fn has_pair(&self, before: &Step, step: &Step) -> bool
         ensures { IsTrue result → (x : Read) → AreKnown x self.now → Follows x before.now step.now }
     {
-        let Some(front) = place.checked_sub(1) else {
+        let Some(place) = self.pair_places.get(&pair_code(before, step)) else {
             return false;
         };
-        let (Some(first), Some(second)) = (self.steps.get(front), self.steps.get(place)) else {
-            return false;
-        };
-        second.follows && is_step(&second.step, step) && is_step(&first.step, before)
-    }
-
-    /// Whether the step that is kept last is this one.
-    fn is_last(&self, step: &Step) -> bool
-        ensures { IsTrue result → IsKeptLast self.now step.now }
-    {
-        let Some(place) = self.steps.len().checked_sub(1) else {
-            return false;
-        };
-        match self.steps.get(place) {
-            Some(kept) => is_step(&kept.step, step),
+        match self.pairs.get(*place) {
+            Some(pair) => is_pair(pair, before, step),
             None => false,
         }
-    }
-
-    /// Sees to it that the step that is kept last is this one. Says whether it had to be kept for that.
-    fn begin_at(&mut self, step: &Step) -> Result<bool, AllocError>
-        ensures known { OnOk result ((x : Read) → AreKnown x self.old → AreKnown x self.new) }
-        ensures last { OnOk result (IsKeptLast self.new step.now) }
-    {
-        if self.is_last(step) {
-            return Ok(false);
-        }
-        self.push(step, false)?;
-        Ok(true)
-    }
-
-    /// Notes where a step will be kept next, behind the one before it: by their code if it begins there, and else now and then.
-    fn note_place(&mut self, before: &Step, step: &Step, begins: bool) -> Result<(), AllocError>
-        ensures known { (x : Read) → AreKnown x self.old → AreKnown x self.new }
-        ensures last { (s : StepValue) → IsKeptLast self.old s → IsKeptLast self.new s }
-    {
-        let place = self.steps.len();
-        self.last = place;
-        if begins || place % STEPS_OF_PLACE == 0 {
-            self.step_places.insert(pair_code(before, step), place)?;
-        }
-        Ok(())
-    }
-
-    /// Keeps a step, which follows from the one that is kept last, or is not said to.
-    #[tactic(auto, using(crate::proofs::Keeping::steps_more))]
-    fn push(&mut self, step: &Step, follows: bool) -> Result<(), AllocError>
-        ensures known { OnOk result ((x : Read) → AreKnown x self.old → (IsTrue follows → MayFollow x self.old step.now) → AreKnown x self.new) }
-        ensures last { OnOk result (IsKeptLast self.new step.now) }
-    {
-        self.steps.push(KeptStep {
-            step: same_step(step)?,
-            follows,
-        })?;
-        Ok(())
     }
 
     /// Keeps a way among the last, and with those in bodies if it is one.
     pub fn keep_way(&mut self, way: Stretch) -> Result<(), AllocError>
         ensures { OnOk result ((x : Read) → AreKnown x self.old → Stays x (region_of way.region) way.lock way.from way.to → AreKnown x self.new) }
     {
-        if is_body(way.region) && self.ways.len() < MOST_WAYS {
+        if is_body(way.region) && self.ways.len() < MOST_KEPT {
             let code = way_code(way.region, &way.lock, way.from, way.to);
             self.way_places.insert(code, self.ways.len())?;
             self.ways.push(same_way(&way)?)?;
@@ -266,11 +192,15 @@ impl Known {
     pub fn keep_pair(&mut self, before: &Step, step: &Step) -> Result<(), AllocError>
         ensures { OnOk result ((x : Read) → AreKnown x self.old → Follows x before.now step.now → AreKnown x self.new) }
     {
-        if !is_body(step.region) || self.steps.len() >= MOST_STEPS {
+        if !is_body(step.region) || self.pairs.len() >= MOST_KEPT {
             return Ok(());
         }
-        let begins = self.begin_at(before)?;
-        self.note_place(before, step, begins)?;
-        self.push(step, true)
+        self.pair_places
+            .insert(pair_code(before, step), self.pairs.len())?;
+        self.pairs.push(Pair {
+            before: same_step(before)?,
+            step: same_step(step)?,
+        })?;
+        Ok(())
     }
 }

@@ -6,7 +6,6 @@ mod confirm;
 mod confirm_step;
 mod ended;
 mod events;
-mod exhaustive;
 mod explain_analysis;
 mod explained_source;
 mod explained_text;

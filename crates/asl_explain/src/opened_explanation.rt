@@ -126,7 +126,6 @@ impl OpenedExplanation {
             number,
             section,
             list,
-            true,
         )
     }
 }

@@ -7,14 +7,12 @@ mod calls;
 mod chains;
 mod gates;
 mod graph;
-mod moves;
 mod nodes;
 mod others;
 mod passing;
 mod point;
 mod points;
 mod seek;
-mod slots;
 mod statements;
 mod trees;
 mod ways;
@@ -24,7 +22,6 @@ use crate::explain_analysis::ExplainAnalysis;
 use crate::explained_value::{Chain, Ending, Why};
 use crate::search::gates::Gates;
 use crate::search::graph::Graph;
-use crate::search::moves::Moves;
 use crate::search::nodes::{Cost, Nodes, Way};
 pub use crate::search::others::Others;
 use crate::search::point::{Point, needed_point};
@@ -87,7 +84,6 @@ pub struct Searcher {
     gates: Gates,
     /// The ways on from the point that is looked at.
     ways: Vec<Way>,
-    moves: Moves,
     search: LockSearch,
     /// Of how many needs under a lock of a list statements are sought.
     most: usize,
@@ -170,7 +166,6 @@ impl Searcher {
             nodes: Nodes::new(alloc),
             gates: Gates::new(alloc),
             ways: Vec::new(alloc),
-            moves: Moves::new(alloc)?,
             search: no_search(alloc, analysis.lowering.code().len())?,
             most: usize::MAX,
             left: usize::MAX,
@@ -286,7 +281,7 @@ impl Searcher {
     /// Begins the next search, with nothing to be looked at. Where too many points are kept, they are all given up.
     fn begin(&mut self) {
         if self.nodes.is_full() {
-            self.nodes.clear();
+            self.nodes = Nodes::new(self.alloc);
             self.gates = Gates::new(self.alloc);
         }
         self.search.begin();

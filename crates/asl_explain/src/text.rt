@@ -180,7 +180,7 @@ impl Teller<'_> {
         ensures { OnOk result (Tells (ended_lines (given self.now).all (given self.now).facts function end.now) (string_bytes text.old) (string_bytes text.new)) }
     {
         self.push_end_line(text, function, &end.lock)?;
-        self.push_ending(text, &end.ending)?;
+        self.push_ending(text, end)?;
         Ok(())
     }
 
@@ -193,9 +193,19 @@ impl Teller<'_> {
         write!(text, "\n  no lock for {words}   ({made} is new)\n")
     }
 
+    /// Adds the chain of a lock that ends at a `new`, if it is told.
+    fn push_ending(&self, text: &mut String, end: &Ended) -> Result<(), AllocError>
+        ensures { OnOk result (Tells (ending_lines (given self.now).all (given self.now).facts end.now.ending) (string_bytes text.old) (string_bytes text.new)) }
+    {
+        match &end.ending {
+            Some(ending) => self.push_told_ending(text, ending),
+            None => Ok(()),
+        }
+    }
+
     /// Adds a chain that ends at a `new`, and the line of the `new`.
-    fn push_ending(&self, text: &mut String, ending: &Ending) -> Result<(), AllocError>
-        ensures { OnOk result (Tells (ending_lines (given self.now).all (given self.now).facts ending.now) (string_bytes text.old) (string_bytes text.new)) }
+    fn push_told_ending(&self, text: &mut String, ending: &Ending) -> Result<(), AllocError>
+        ensures { OnOk result (Tells (ending_lines (given self.now).all (given self.now).facts (Some ending.now)) (string_bytes text.old) (string_bytes text.new)) }
     {
         self.push_chain(text, &ending.chain)?;
         self.push_new(text, ending.pc)?;

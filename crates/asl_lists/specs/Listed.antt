@@ -31,7 +31,7 @@ pub record IsDocument (source : List ℕ) (k_limit : ℕ) (added text : List ℕ
   pub facts : Facts
   pub are_facts : AreFacts source facts
   pub explanation : Explanation
-  pub explains : IsExplanation source k_limit true explanation
+  pub explains : IsExplanation source k_limit explanation
   pub tells : text ≡ document_text facts k_limit added explanation.sections
 
 -- so with paths of the length that is asked for

@@ -65,9 +65,9 @@ one_outcome texts bytes command.Disassemble input o p settled all x y =
 one_outcome texts bytes (command.Compile k_limit as_text) input o p settled all x y = absurd settled
 one_outcome texts bytes (command.Check k_limit all_lacks) input o p settled all x y = absurd settled
 one_outcome texts bytes command.Map input o p settled all x y = absurd settled
-one_outcome texts bytes (command.Explain k_limit all classes entries) input o p settled all_ x y = absurd settled
+one_outcome texts bytes (command.Explain k_limit all classes) input o p settled all_ x y = absurd settled
 one_outcome texts bytes (command.Lists k_limit entries) input o p settled all_ x y = absurd settled
-one_outcome texts bytes (command.Diagnose assembly k_limit all entries) input o p settled all_ x y = absurd settled
+one_outcome texts bytes (command.Diagnose assembly k_limit all) input o p settled all_ x y = absurd settled
 one_outcome texts bytes (command.PrintC k_limit checks entries externs) input o p settled all x y = absurd settled
 one_outcome texts bytes command.Replay input o p settled all x y =
     replays_one same_of input o p all (replay_is same_of input o (cases command.Replay input o x)) (replay_is same_of input p (cases command.Replay input p y))
@@ -203,9 +203,9 @@ some_outcome texts bytes (command.Debug words) input settled all =
 some_outcome texts bytes (command.Compile k_limit as_text) input settled all = absurd settled
 some_outcome texts bytes (command.Check k_limit all_lacks) input settled all = absurd settled
 some_outcome texts bytes command.Map input settled all = absurd settled
-some_outcome texts bytes (command.Explain k_limit all classes entries) input settled all_ = absurd settled
+some_outcome texts bytes (command.Explain k_limit all classes) input settled all_ = absurd settled
 some_outcome texts bytes (command.Lists k_limit entries) input settled all_ = absurd settled
-some_outcome texts bytes (command.Diagnose assembly k_limit all entries) input settled all_ = absurd settled
+some_outcome texts bytes (command.Diagnose assembly k_limit all) input settled all_ = absurd settled
 some_outcome texts bytes (command.PrintC k_limit checks entries externs) input settled all = absurd settled
 
 -- ---- `log` after `step --record`

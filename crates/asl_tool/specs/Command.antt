@@ -13,6 +13,9 @@ use Rattle.asl_command_line.specs.declared.command.Command.TheVariants as comman
 use Rattle.asl_tool.specs.declared.command_fault.CommandFault.{CommandFault}
 use Rattle.asl_tool.specs.declared.command_fault.CommandFault.TheVariants as fault
 use Rattle.asl_tool.specs.Program.{IsNoProgram}
+use Rattle.asl_class_text.specs.Classes.{IsClassText}
+use Rattle.asl_explain.specs.Told.{IsText}
+use Rattle.asl_explain.specs.Explained as explain
 use Rattle.asl_explain.specs.declared.fault.ExplainFault.TheVariants as why
 use Rattle.asl_lists.specs.Listed.{IsListed, IsRefusedLists}
 use Rattle.asl_lists.specs.declared.fault.ListsFault.TheVariants as lists
@@ -23,8 +26,7 @@ use Rattle.asl_tool.specs.C.{IsPrinted, IsRefusedPrinting}
 use Rattle.asl_tool.specs.Check.{IsChecked, IsRefusedCheck}
 use Rattle.asl_tool.specs.Compile.{IsCompiled, IsRefusedSource}
 use Rattle.asl_tool.specs.Debug.{IsDebugged}
-use Rattle.asl_tool.specs.Diagnose.{IsDiagnosedFor}
-use Rattle.asl_tool.specs.Explain.{IsExplainedFor, IsRefusedExplainFor}
+use Rattle.asl_tool.specs.Diagnose.{IsDiagnosed}
 use Rattle.asl_tool.specs.Log.{IsLogged}
 use Rattle.asl_tool.specs.Replay.{IsReplayed, HasRefusedReplay}
 use Rattle.asl_tool.specs.Step.{IsRecorded, IsStepped, IsSteppable, HasRefusedRun}
@@ -41,6 +43,11 @@ pub record IsDisassembled (bytes text : List ℕ) : Type 0 where
   pub program : IsProgramImage bytes image
   pub canonical : text ≡ canonical_text image
 
+-- the explanation of the source's lists, or the text of its classes
+abbrev pub IsExplained : List ℕ → ℕ → Bool → Bool → List ℕ → Type 0
+IsExplained input k_limit all false text = IsText input k_limit all text
+IsExplained input k_limit all true text = IsClassText input all text
+
 -- the output of each command for an input
 abbrev pub IsOutput : Command → List ℕ → List ℕ → Type 0
 IsOutput (command.Step threads schedule record_it) input output = IsStepped input threads schedule.items record_it output
@@ -49,9 +56,9 @@ IsOutput command.Disassemble input text = IsDisassembled input text
 IsOutput (command.Compile k_limit as_text) input output = IsCompiled input k_limit as_text output
 IsOutput (command.Check k_limit all) input text = IsChecked input k_limit text
 IsOutput command.Map input text = IsMapText input text
-IsOutput (command.Explain k_limit all classes entries) input text = IsExplainedFor input k_limit all classes (each string_bytes entries.items) text
+IsOutput (command.Explain k_limit all classes) input text = IsExplained input k_limit all classes text
 IsOutput (command.Lists k_limit entries) input text = IsListed input k_limit (each string_bytes entries.items) text
-IsOutput (command.Diagnose assembly k_limit all entries) input text = IsDiagnosedFor input assembly k_limit all (each string_bytes entries.items) text
+IsOutput (command.Diagnose assembly k_limit all) input text = IsDiagnosed input assembly k_limit all text
 IsOutput (command.PrintC k_limit checks entries externs) input text = IsPrinted input k_limit checks (each string_bytes entries.items) externs.items text
 IsOutput command.Replay input text = IsReplayed input text
 IsOutput (command.Log trace) input text = IsLogged input trace text
@@ -87,6 +94,12 @@ abbrev pub IsRefusedMap : List ℕ → CommandFault → Type 0
 IsRefusedMap input (fault.Map cause) = map.IsRefusedMapping input cause
 IsRefusedMap input f = ⊥
 
+-- what each refusal of `explain` says of the source
+abbrev pub IsRefusedExplain : List ℕ → ℕ → CommandFault → Type 0
+IsRefusedExplain input k_limit (fault.Source cause) = explain.IsRefusedExplanation input k_limit (why.Source cause)
+IsRefusedExplain input k_limit (fault.Infer cause) = explain.IsRefusedExplanation input k_limit (why.Infer cause)
+IsRefusedExplain input k_limit f = ⊥
+
 -- what each refusal of `lists` says of the source
 abbrev pub IsRefusedListing : List ℕ → Option ℕ → List (List ℕ) → CommandFault → Type 0
 IsRefusedListing input k_limit entries (fault.Source cause) = IsRefusedLists input k_limit entries (lists.Refused (why.Source cause))
@@ -114,9 +127,9 @@ IsRefusedCommand command.Disassemble input f = IsRefusedImage input f
 IsRefusedCommand (command.Compile k_limit as_text) input f = IsRefusedSource input k_limit f
 IsRefusedCommand (command.Check k_limit all) input f = IsRefusedCheck input k_limit all f
 IsRefusedCommand command.Map input f = IsRefusedMap input f
-IsRefusedCommand (command.Explain k_limit all classes entries) input f = IsRefusedExplainFor input k_limit (each string_bytes entries.items) f
+IsRefusedCommand (command.Explain k_limit all classes) input f = IsRefusedExplain input k_limit f
 IsRefusedCommand (command.Lists k_limit entries) input f = IsRefusedListing input k_limit (each string_bytes entries.items) f
-IsRefusedCommand (command.Diagnose assembly k_limit all entries) input f = IsRefusedDiagnose f
+IsRefusedCommand (command.Diagnose assembly k_limit all) input f = IsRefusedDiagnose f
 IsRefusedCommand (command.PrintC k_limit checks entries externs) input f = IsRefusedPrinting input k_limit (each string_bytes entries.items) externs.items f
 IsRefusedCommand command.Replay input f = IsRefusedReplay input f
 IsRefusedCommand (command.Log trace) input f = IsRefusedReplay input f

@@ -1,15 +1,12 @@
 -- What the command `diagnose` answers: why a text is refused, and where that is asked for what the text of a source may lack
 -- (docs/ANALYSIS.md, "What the text may lack").
-use Rattle.std.specs.Prelude.{◌≡◌, ◌⊎◌, ◌++◌, ℕ, Bool, true, false, List, [], ◌∷◌, codes}
+use Rattle.std.specs.Prelude.{◌≡◌, ◌⊎◌, ℕ, Bool, true, false, List, []}
 use Rattle.asl_map.specs.Mapped.{IsRefusedMapping, IsOutOfMemory}
 use Rattle.asl_map.specs.declared.fault.MapFault.{MapFault}
 use Rattle.asl_class_text.specs.declared.facts.Known.{Known}
 use Rattle.asl_class_text.specs.Classes.{IsKnown}
 use Rattle.asl_warnings.specs.Texts.{joined, warnings_text}
 use Rattle.asl_diagnose.specs.RefusalText.{IsTold}
-use Rattle.asl_lists.specs.declared.driver.Entry.{Entry}
-use Rattle.asl_lists.specs.Driver.{AreEntries, driver}
-use Rattle.asl_tool.specs.Added.{added_heading, with_note}
 
 -- the source has no classes: it is no program, it has no code, or it has too many of them
 abbrev pub HasNoClasses : List ℕ → Type 0
@@ -32,16 +29,3 @@ abbrev pub IsDiagnosed : List ℕ → Bool → ℕ → Bool → List ℕ → Typ
 IsDiagnosed input true k_limit all text = IsTold input true k_limit text
 IsDiagnosed input false k_limit false text = IsTold input false k_limit text
 IsDiagnosed input false k_limit true text = IsToldWhole input k_limit text
-
--- the diagnosis of a source with what calls its entries, and behind it from which line on this stands; nothing where nothing is told
-pub record IsDiagnosedWhole (source : List ℕ) (assembly : Bool) (k_limit : ℕ) (all : Bool) (names : List (List ℕ)) (text : List ℕ) : Type 0 where
-  pub entries : List Entry
-  pub named : AreEntries source names entries
-  pub told : List ℕ
-  pub diagnosed : IsDiagnosed (source ++ driver entries) assembly k_limit all told
-  pub noted : text ≡ with_note told (added_heading source ++ codes "\n")
-
--- the diagnosis of a text, with what calls its entries where some are named, as of no assembly text
-abbrev pub IsDiagnosedFor : List ℕ → Bool → ℕ → Bool → List (List ℕ) → List ℕ → Type 0
-IsDiagnosedFor input assembly k_limit all [] text = IsDiagnosed input assembly k_limit all text
-IsDiagnosedFor input assembly k_limit all (name ∷ names) text = IsDiagnosedWhole input assembly k_limit all (name ∷ names) text

@@ -7,8 +7,6 @@ pub mod Replay
 pub mod Log
 pub mod Debug
 pub mod Spacing
-pub mod Added
-pub mod Explain
 pub mod Diagnose
 pub mod Compile
 pub mod C

@@ -46,8 +46,8 @@ abbrev pub IsSettled : Command → Type 0
 IsSettled (command.Compile k_limit as_text) = ⊥
 IsSettled (command.Check k_limit all) = ⊥
 IsSettled command.Map = ⊥
-IsSettled (command.Explain k_limit all classes entries) = ⊥
+IsSettled (command.Explain k_limit all classes) = ⊥
 IsSettled (command.Lists k_limit entries) = ⊥
-IsSettled (command.Diagnose assembly k_limit all entries) = ⊥
+IsSettled (command.Diagnose assembly k_limit all) = ⊥
 IsSettled (command.PrintC k_limit checks entries externs) = ⊥
 IsSettled c = Unit {0}

@@ -2,7 +2,6 @@
 ghost use Rattle.std.specs.Prelude.{IfOk, IfErr};
 ghost use Rattle.asl_tool.specs.Command.{IsOutput, IsRunFile, IsRefusedCommand};
 
-mod added;
 mod asm;
 mod c;
 mod c_names;
@@ -49,8 +48,7 @@ pub fn output_of(alloc: Global, command: &Command, input: &[u8]) -> Result<Vec<u
             k_limit,
             all,
             classes,
-            entries,
-        } => explain::explained_source(alloc, k_limit, *all, *classes, entries.as_slice(), input),
+        } => explain::explained_source(alloc, k_limit, *all, *classes, input),
         Command::Lists { k_limit, entries } => lists::listed_source(
             alloc,
             k_limit,
@@ -61,8 +59,7 @@ pub fn output_of(alloc: Global, command: &Command, input: &[u8]) -> Result<Vec<u
             assembly,
             k_limit,
             all,
-            entries,
-        } => diagnose::diagnosed_input(alloc, *assembly, k_limit, *all, entries.as_slice(), input),
+        } => diagnose::diagnosed_input(alloc, *assembly, k_limit, *all, input),
         Command::PrintC {
             k_limit,
             checks,

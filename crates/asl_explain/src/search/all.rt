@@ -6,7 +6,7 @@ use crate::explain_analysis::ExplainAnalysis;
 use crate::explained_value::{Chain, Why};
 use crate::search::Searcher;
 use crate::search::point::Point;
-use crate::search::trees::{FoundStatement, KeptChange, Tree};
+use crate::search::trees::{Reached, Tree, Turn};
 use asl_code::{Items, Lock};
 use asl_lower::Section;
 use std::alloc::AllocError;
@@ -75,8 +75,8 @@ impl Searcher {
             return Ok(chains);
         };
         if let Some(tree) = self.trees.tree(tree) {
-            for found in &tree.found {
-                chains.push(self.chain_to(analysis, tree, *found, visit.last)?)?;
+            for reached in &tree.reached {
+                chains.push(self.chain_to(analysis, tree, *reached, visit.last)?)?;
             }
         }
         Ok(chains)
@@ -87,16 +87,16 @@ impl Searcher {
         &self,
         analysis: &ExplainAnalysis,
         tree: &Tree,
-        found: FoundStatement,
+        reached: Reached,
         last: Option<usize>,
     ) -> Result<Chain, AllocError> {
-        let count = found.end.saturating_sub(found.first);
+        let count = reached.end.saturating_sub(reached.first);
         let outside = self.count_changes(last).saturating_add(1);
         let mut steps = Vec::with_capacity(self.alloc, count.saturating_add(outside))?;
-        self.add_step(analysis, found.point, Why::Accessed, &mut steps)?;
-        for place in found.first..found.end {
-            if let Some(change) = tree.changes.get(place) {
-                self.add_step(analysis, change.point, change.why, &mut steps)?;
+        self.add_step(analysis, reached.point, Why::Accessed, &mut steps)?;
+        for place in reached.first..reached.end {
+            if let Some(turn) = tree.changes.get(place) {
+                self.add_step(analysis, turn.point, turn.why, &mut steps)?;
             }
         }
         self.add_changes(analysis, last, &mut steps)?;
@@ -106,11 +106,11 @@ impl Searcher {
     }
 
     /// Adds all statements that were found to a tree, with the changes on the ways to them.
-    pub(crate) fn add_found(&self, tree: &mut Tree) -> Result<(), AllocError> {
+    pub(crate) fn add_reached(&self, tree: &mut Tree) -> Result<(), AllocError> {
         for access in &self.search.accesses {
             let first = tree.changes.len();
-            self.add_kept_changes(access.last, &mut tree.changes)?;
-            tree.found.push(FoundStatement {
+            self.add_turns(access.last, &mut tree.changes)?;
+            tree.reached.push(Reached {
                 point: access.point,
                 first,
                 end: tree.changes.len(),
@@ -120,17 +120,17 @@ impl Searcher {
     }
 
     /// Adds a change and those before it.
-    pub(crate) fn add_kept_changes(
+    pub(crate) fn add_turns(
         &self,
         from: Option<usize>,
-        kept: &mut Vec<KeptChange>,
+        turns: &mut Vec<Turn>,
     ) -> Result<(), AllocError> {
         let mut last = from;
         for _ in 0..self.search.changes.len() {
             let Some(change) = self.change_at(last) else {
                 break;
             };
-            kept.push(KeptChange {
+            turns.push(Turn {
                 point: change.point,
                 why: change.why,
             })?;

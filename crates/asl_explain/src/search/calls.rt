@@ -32,14 +32,14 @@ pub(crate) struct Calls {
 
 /// The pcs of a body that ways have come to, with the lengths of the shortest.
 #[derive(Drop)]
-struct ReachedPcs {
+struct Reached {
     start: u16,
     lengths: Vec<Option<u32>>,
     /// In the order in which ways came to them.
     pcs: Vec<u16>,
 }
 
-impl ReachedPcs {
+impl Reached {
     /// The length of the shortest way to a pc.
     fn length(&self, pc: u16) -> Option<u32> {
         let place = pc.checked_sub(self.start)?;
@@ -78,7 +78,7 @@ pub(crate) fn find_calls(
         sites: Vec::new(alloc),
         takings: Vec::new(alloc),
     };
-    let mut reached = ReachedPcs {
+    let mut reached = Reached {
         start,
         lengths: vec![in alloc; None; len]?,
         pcs: Vec::new(alloc),
@@ -99,7 +99,7 @@ impl Calls {
     fn pass(
         &mut self,
         analysis: &ExplainAnalysis,
-        reached: &mut ReachedPcs,
+        reached: &mut Reached,
         pc: u16,
         length: u32,
     ) -> Result<(), AllocError> {

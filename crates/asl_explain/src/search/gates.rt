@@ -13,8 +13,8 @@ pub(crate) struct Gate {
 
 /// What is known of a body: of which lock, and its gate, if the body needs the lock.
 #[derive(Clone, Copy)]
-struct NotedGate {
-    lock_number: u32,
+struct Known {
+    turn: u32,
     gate: Option<Gate>,
 }
 
@@ -23,8 +23,8 @@ struct NotedGate {
 pub(crate) struct Gates {
     lock: Option<Lock>,
     /// How many locks there were; what is known of a body may be of an earlier one.
-    lock_number: u32,
-    bodies: Vec<NotedGate>,
+    turn: u32,
+    bodies: Vec<Known>,
 }
 
 impl Gates {
@@ -32,27 +32,27 @@ impl Gates {
     pub(crate) fn new(alloc: Global) -> Gates {
         Gates {
             lock: None,
-            lock_number: 0,
+            turn: 0,
             bodies: Vec::new(alloc),
         }
     }
 
     /// From now on the gates are those of this lock.
-    pub(crate) fn begin_lock(&mut self, lock: &Lock) -> Result<(), AllocError> {
+    pub(crate) fn turn_to(&mut self, lock: &Lock) -> Result<(), AllocError> {
         if let Some(own) = &self.lock {
             if own == lock {
                 return Ok(());
             }
         }
         self.lock = Some(lock.clone()?);
-        self.lock_number = self.lock_number.saturating_add(1);
+        self.turn = self.turn.saturating_add(1);
         Ok(())
     }
 
     /// What is known of the body at a place: its gate, or that it has none.
     pub(crate) fn gate(&self, place: u16) -> Option<Option<Gate>> {
         match self.bodies.get(usize::from(place)) {
-            Some(known) if known.lock_number == self.lock_number => Some(known.gate),
+            Some(known) if known.turn == self.turn => Some(known.gate),
             _ => None,
         }
     }
@@ -60,14 +60,14 @@ impl Gates {
     /// Notes the gate of the body at a place.
     pub(crate) fn note(&mut self, place: u16, gate: Option<Gate>) -> Result<(), AllocError> {
         for _ in self.bodies.len()..usize::from(place) + 1 {
-            self.bodies.push(NotedGate {
-                lock_number: 0,
+            self.bodies.push(Known {
+                turn: 0,
                 gate: None,
             })?;
         }
         if let Some(known) = self.bodies.get_mut(usize::from(place)) {
-            *known = NotedGate {
-                lock_number: self.lock_number,
+            *known = Known {
+                turn: self.turn,
                 gate,
             };
         }

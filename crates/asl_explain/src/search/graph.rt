@@ -6,7 +6,7 @@ use crate::region_table::{RegionTable, make_table};
 use crate::search::calls::{CallSite, Calls, Taking, find_calls};
 use crate::search::point::{Point, lock_of, narrow, point_of};
 use asl_backward_flow::Region;
-use asl_code::{Base, Instr, Lock};
+use asl_code::Instr;
 use std::alloc::{AllocError, Global};
 
 /// A point, and how many instructions are on the way to it.
@@ -39,16 +39,6 @@ pub(crate) struct Graph {
     calls: Vec<Option<Calls>>,
     /// That section.
     section: Option<Placed>,
-}
-
-/// Whether the instruction moves from or to the register on which the lock begins.
-fn is_moved(instr: Option<&Instr>, lock: &Lock) -> bool {
-    match (instr, lock) {
-        (Some(Instr::Move { to, from }), Lock::Expr(expr, _)) => {
-            expr.base == Base::Reg(*to) || expr.base == Base::Reg(*from)
-        }
-        _ => false,
-    }
 }
 
 impl Graph {
@@ -90,13 +80,6 @@ impl Graph {
     pub(crate) fn event(&self, analysis: &ExplainAnalysis, from: Point) -> Option<Ahead> {
         let table = self.table_of(from.place)?;
         let lock = lock_of(analysis, from)?;
-        let code = analysis.lowering.code();
-        if is_moved(code.get(usize::from(from.pc)), lock) {
-            return Some(Ahead {
-                to: from,
-                instructions: 0,
-            });
-        }
         let passed = self.events.next(table.function, lock, from.pc)?;
         Some(Ahead {
             to: point_of(analysis, from.place, passed.pc, usize::from(from.number))?,

@@ -2,8 +2,8 @@
 
 use crate::explained_value::Why;
 use crate::search::point::Point;
-use crate::search::slots::{Slots, code_of};
 use std::alloc::{AllocError, Global};
+use std::collections::HashMap;
 
 /// So many points are kept from search to search.
 const MOST_KEPT: usize = 262144;
@@ -89,7 +89,7 @@ struct Node {
 #[derive(Drop)]
 pub(crate) struct Nodes {
     nodes: Vec<Node>,
-    slots: Slots,
+    numbers: HashMap<Point, usize>,
     edges: Vec<Edge>,
 }
 
@@ -162,18 +162,9 @@ impl Nodes {
     pub(crate) fn new(alloc: Global) -> Nodes {
         Nodes {
             nodes: Vec::new(alloc),
-            slots: Slots::new(alloc),
+            numbers: HashMap::new(alloc),
             edges: Vec::new(alloc),
         }
-    }
-
-    /// Gives up all points, and keeps the memory for as many as are kept from search to search.
-    pub(crate) fn clear(&mut self) {
-        self.slots.clear();
-        self.nodes.clear();
-        self.nodes.shrink_to(2 * MOST_KEPT);
-        self.edges.clear();
-        self.edges.shrink_to(2 * MOST_EDGES);
     }
 
     /// Whether there are too many points to be kept.
@@ -183,39 +174,13 @@ impl Nodes {
 
     /// The number of a point, which is kept from now on.
     pub(crate) fn number(&mut self, point: Point) -> Result<usize, AllocError> {
-        if let Some(number) = self.find(point) {
-            return Ok(number);
-        }
-        if self.slots.is_crowded(self.nodes.len()) {
-            self.spread()?;
+        if let Some(number) = self.numbers.get(&point) {
+            return Ok(*number);
         }
         let number = self.nodes.len();
         self.nodes.push(new_node(point))?;
-        self.slots.put(code_of(point), number);
+        self.numbers.insert(point, number)?;
         Ok(number)
-    }
-
-    /// The number of a point, if it is kept.
-    fn find(&self, point: Point) -> Option<usize> {
-        let code = code_of(point);
-        for step in 0..self.slots.len() {
-            let number = self.slots.number(code, step)?;
-            if let Some(node) = self.nodes.get(number) {
-                if node.point == point {
-                    return Some(number);
-                }
-            }
-        }
-        None
-    }
-
-    /// Makes more slots, and puts the numbers of all points into them.
-    fn spread(&mut self) -> Result<(), AllocError> {
-        self.slots.grow()?;
-        for (number, node) in self.nodes.iter().enumerate() {
-            self.slots.put(code_of(node.point), number);
-        }
-        Ok(())
     }
 
     /// What a way of this search to the point of a number is beside those that it has found.

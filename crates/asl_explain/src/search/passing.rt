@@ -62,7 +62,7 @@ impl Searcher {
         let Some(lock) = lock_of(analysis, point) else {
             return Ok(false);
         };
-        self.gates.begin_lock(lock)?;
+        self.gates.turn_to(lock)?;
         self.add_sites(analysis, point, lock)?;
         self.add_takings(analysis, point, lock)?;
         Ok(true)

@@ -149,8 +149,7 @@ impl Searcher {
     {
         self.graph.enter(analysis, point)?;
         self.ways.clear();
-        self.graph
-            .add_ways(analysis, point, &mut self.moves, &mut self.ways)?;
+        self.graph.add_ways(analysis, point, &mut self.ways)?;
         for way in &self.ways {
             let Way { to: from, why } = *way;
             if let Some(Ahead { to, instructions }) = self.graph.event(analysis, from) {

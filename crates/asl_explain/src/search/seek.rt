@@ -7,7 +7,7 @@ use crate::explained_value::{Chain, Step, Why};
 use crate::search::nodes::{Cost, Via};
 use crate::search::point::Point;
 use crate::search::statements::Statements;
-use crate::search::trees::{First, KeptChange, Range, Tree, overlap};
+use crate::search::trees::{First, Range, Tree, overlap};
 use crate::search::{Access, Searcher, Waiting};
 use asl_code::{Items, Lock};
 use asl_lower::Section;
@@ -136,26 +136,26 @@ impl Searcher {
         let number = self.nodes.number(from)?;
         self.wait(from, number, Cost::none(), Via::start(), None)?;
         self.go_on(analysis, usize::MAX)?;
-        let mut first_changes = Vec::new(self.alloc);
+        let mut turns = Vec::new(self.alloc);
         let first = match self.search.accesses.first() {
             Some(access) => {
-                self.add_kept_changes(access.last, &mut first_changes)?;
+                self.add_turns(access.last, &mut turns)?;
                 Some(access.first())
             }
             None => None,
         };
         let mut tree = Tree {
             first,
-            first_changes,
+            turns,
             all: self.statements_from(0)?,
             others: self.statements_from(1)?,
             range: self.range(),
             pcs: self.pcs()?,
-            found: Vec::new(self.alloc),
+            reached: Vec::new(self.alloc),
             changes: Vec::new(self.alloc),
         };
         if self.keeps_all {
-            self.add_found(&mut tree)?;
+            self.add_reached(&mut tree)?;
         }
         self.trees.keep(from, tree)
     }
@@ -329,36 +329,25 @@ impl Searcher {
         joined: &Joined,
         best: Best,
     ) -> Result<Vec<Step>, AllocError> {
+        let mut steps = Vec::new(self.alloc);
+        self.add_step(analysis, best.first.point, Why::Accessed, &mut steps)?;
         let entered = match best.entered {
             Some(place) => joined.entered.get(place).copied(),
             None => None,
         };
-        let last = match (entered, self.search.accesses.first()) {
-            (Some(entered), _) => entered.last,
-            (None, Some(access)) => access.last,
-            (None, None) => None,
-        };
-        let inside = self.changes_in(entered);
-        let outside = self.count_changes(last).saturating_add(1);
-        let count = inside.len().saturating_add(outside);
-        let mut steps = Vec::with_capacity(self.alloc, count)?;
-        self.add_step(analysis, best.first.point, Why::Accessed, &mut steps)?;
-        for change in inside {
-            self.add_step(analysis, change.point, change.why, &mut steps)?;
-        }
-        self.add_changes(analysis, last, &mut steps)?;
-        Ok(steps)
-    }
-
-    /// The changes on the way to the first statement of a body that is entered, the last first.
-    fn changes_in(&self, entered: Option<Entered>) -> &[KeptChange] {
         let Some(entered) = entered else {
-            return &[];
+            if let Some(access) = self.search.accesses.first() {
+                self.add_changes(analysis, access.last, &mut steps)?;
+            }
+            return Ok(steps);
         };
-        match self.trees.tree(entered.tree) {
-            Some(tree) => tree.first_changes.as_slice(),
-            None => &[],
+        if let Some(tree) = self.trees.tree(entered.tree) {
+            for turn in &tree.turns {
+                self.add_step(analysis, turn.point, turn.why, &mut steps)?;
+            }
         }
+        self.add_changes(analysis, entered.last, &mut steps)?;
+        Ok(steps)
     }
 }
 

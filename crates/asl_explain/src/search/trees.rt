@@ -8,20 +8,20 @@ use std::alloc::{AllocError, Global};
 use std::collections::HashMap;
 
 /// So many changes of trees are kept.
-const MOST_CHANGES: usize = 4194304;
+const MOST_CHANGES: usize = 1048576;
 
 /// What a tree takes besides its changes and its statements, as so many changes.
-const OWN_CHANGES: usize = 64;
+const OWN_CHANGES: usize = 16;
 
 /// So many pcs of statements take as much as a change.
 const PCS_OF_CHANGE: usize = 4;
 
 /// A statement with its place among the changes takes as much as so many of them.
-const CHANGES_OF_FOUND: usize = 3;
+const CHANGES_OF_REACHED: usize = 3;
 
 /// A change of the lock on the way from a body's entry to a statement.
 #[derive(Clone, Copy)]
-pub(crate) struct KeptChange {
+pub(crate) struct Turn {
     pub(crate) point: Point,
     pub(crate) why: Why,
 }
@@ -42,7 +42,7 @@ pub(crate) struct Range {
 
 /// A statement, and where among all the changes on the way to it lie, the last first.
 #[derive(Clone, Copy)]
-pub(crate) struct FoundStatement {
+pub(crate) struct Reached {
     pub(crate) point: Point,
     pub(crate) first: usize,
     pub(crate) end: usize,
@@ -54,7 +54,7 @@ pub(crate) struct Tree {
     /// The statement that is found first, if there is one.
     pub(crate) first: Option<First>,
     /// The changes on the way to it, the last first.
-    pub(crate) first_changes: Vec<KeptChange>,
+    pub(crate) turns: Vec<Turn>,
     /// All statements.
     pub(crate) all: Statements,
     /// All but the first.
@@ -64,8 +64,8 @@ pub(crate) struct Tree {
     /// The pcs of all statements.
     pub(crate) pcs: Vec<u16>,
     /// All statements in the order in which they are found, and the changes on the ways to them, where all chains are kept.
-    pub(crate) found: Vec<FoundStatement>,
-    pub(crate) changes: Vec<KeptChange>,
+    pub(crate) reached: Vec<Reached>,
+    pub(crate) changes: Vec<Turn>,
 }
 
 /// What was found, by the first points.
@@ -119,9 +119,9 @@ impl Trees {
     /// Keeps what was found from a point on.
     pub(crate) fn keep(&mut self, from: Point, tree: Tree) -> Result<(), AllocError> {
         let own = OWN_CHANGES.saturating_add(tree.pcs.len() / PCS_OF_CHANGE);
-        let kept = tree.first_changes.len().saturating_add(tree.changes.len());
-        let found = tree.found.len().saturating_mul(CHANGES_OF_FOUND);
-        let added = kept.saturating_add(found).saturating_add(own);
+        let turns = tree.turns.len().saturating_add(tree.changes.len());
+        let reached = tree.reached.len().saturating_mul(CHANGES_OF_REACHED);
+        let added = turns.saturating_add(reached).saturating_add(own);
         self.changes = self.changes.saturating_add(added);
         let number = self.trees.len();
         self.trees.push(tree)?;

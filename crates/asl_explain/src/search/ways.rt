@@ -8,9 +8,8 @@ use crate::explained_value::Why;
 use crate::links::{based_back, entered_back, is_kept, is_link};
 use crate::region_table::RegionTable;
 use crate::search::graph::Graph;
-use crate::search::moves::Moves;
 use crate::search::nodes::Way;
-use crate::search::point::{Point, lock_of, narrow, needed_point, point_of};
+use crate::search::point::{Point, lock_of, needed_point, point_of};
 use asl_code::{Base, Expr, Instr, Lock, Op};
 use asl_lock_expr::{LinkContext, stays};
 use std::alloc::AllocError;
@@ -37,23 +36,12 @@ fn may_become(instr: &Instr, after: &Lock, before: &Lock) -> bool {
     }
 }
 
-/// The register to which the instruction moves that on which the lock begins, if it does.
-fn moved_to(instr: &Instr, lock: &Lock) -> Option<u8> {
-    match (instr, lock) {
-        (Instr::Move { to, from }, Lock::Expr(expr, _)) if expr.base == Base::Reg(*from) => {
-            Some(*to)
-        }
-        _ => None,
-    }
-}
-
 impl Graph {
     /// Adds the ways on from a point.
     pub(crate) fn add_ways(
         &self,
         analysis: &ExplainAnalysis,
         point: Point,
-        moves: &mut Moves,
         ways: &mut Vec<Way>,
     ) -> Result<(), AllocError>
         requires { IsAnalysed analysis.now }
@@ -72,11 +60,7 @@ impl Graph {
         // the same lock where it is still needed after the instruction, then those that become it over the instruction
         for next in lowering.successors(point.pc).as_slice() {
             self.add_kept(analysis, &view, instr, point, lock, *next, ways)?;
-            if let Some(to) = moved_to(instr, lock) {
-                self.add_moved(analysis, &view, instr, point, lock, *next, to, moves, ways)?;
-            } else {
-                self.add_linked(analysis, &view, instr, table, point, lock, *next, ways)?;
-            }
+            self.add_linked(analysis, &view, instr, table, point, lock, *next, ways)?;
         }
         self.add_entry(analysis, instr, point, lock, ways)?;
         self.add_longer(analysis, table, point, ways)
@@ -158,85 +142,6 @@ impl Graph {
             }
         }
         Ok(())
-    }
-
-    /// Adds the way over a move from the lock's register to another, to the lock that becomes the point's.
-    fn add_moved(
-        &self,
-        analysis: &ExplainAnalysis,
-        view: &LinkContext,
-        instr: &Instr,
-        point: Point,
-        lock: &Lock,
-        next: u16,
-        to: u8,
-        moves: &mut Moves,
-        ways: &mut Vec<Way>,
-    ) -> Result<(), AllocError>
-        requires { view.now.k_limit ≤ 8 }
-    {
-        let after = match moves.after(point, to) {
-            Some(after) => after,
-            None => {
-                let after = self.before_move(analysis, view, instr, point, lock)?;
-                moves.note(point, to, after);
-                after
-            }
-        };
-        if let Some(number) = after {
-            if let Some(to) = point_of(analysis, point.place, next, usize::from(number)) {
-                ways.push(Way {
-                    to,
-                    why: Some(Why::Linked),
-                })?;
-            }
-        }
-        Ok(())
-    }
-
-    /// The number of the lock after a move that becomes the point's before it, if the region has it.
-    fn before_move(
-        &self,
-        analysis: &ExplainAnalysis,
-        view: &LinkContext,
-        instr: &Instr,
-        point: Point,
-        lock: &Lock,
-    ) -> Result<Option<u16>, AllocError>
-        requires { view.now.k_limit ≤ 8 }
-    {
-        let Some(after) = based_back(instr, lock) else {
-            return Ok(None);
-        };
-        let number = narrow(analysis.flow.number(usize::from(point.place), &after));
-        match number {
-            Some(number) if self.is_changed(analysis, view, instr, point, lock, number)? => {
-                Ok(Some(number))
-            }
-            _ => Ok(None),
-        }
-    }
-
-    /// Whether another lock of the point's region, after the instruction, becomes the point's before it.
-    fn is_changed(
-        &self,
-        analysis: &ExplainAnalysis,
-        view: &LinkContext,
-        instr: &Instr,
-        point: Point,
-        lock: &Lock,
-        number: u16,
-    ) -> Result<bool, AllocError>
-        requires { view.now.k_limit ≤ 8 }
-    {
-        let after = lock_of(analysis, Point { number, ..point });
-        let Some(after) = after else {
-            return Ok(false);
-        };
-        if number == point.number || !may_become(instr, after, lock) || stays(view, instr, after) {
-            return Ok(false);
-        }
-        is_link(self.alloc, view, instr, after, lock)
     }
 
     /// Adds the ways over an instruction to the other locks after it that become the point's.

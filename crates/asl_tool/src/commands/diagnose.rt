@@ -1,17 +1,15 @@
 //! The command `diagnose`: from a source or an assembly text to why it is refused, as a person reads it, and to what the text of a source
 //! may lack.
-ghost use Rattle.std.specs.Prelude.{◌≡◌, ◌≤◌, ◌++◌, map, IfOk, IfErr, MatchBool, OnOk, codes, string_bytes};
+ghost use Rattle.std.specs.Prelude.{◌≡◌, ◌≤◌, ◌++◌, IfOk, IfErr, MatchBool, OnOk, codes, string_bytes};
 ghost use Rattle.asl_map.specs.Mapped.{IsOutOfMemory};
 ghost use Rattle.asl_warnings.specs.Texts.{headed, joined};
 ghost use Rattle.asl_tool.specs.Command.{IsRefusedDiagnose};
-ghost use Rattle.asl_tool.specs.Diagnose.{IsDiagnosed, IsDiagnosedFor, IsDiagnosedWhole, IsToldWhole, AreWarnings};
+ghost use Rattle.asl_tool.specs.Diagnose.{IsDiagnosed, IsToldWhole, AreWarnings};
 
 use crate::command_fault::CommandFault;
-use crate::commands::added::{line_note, with_note};
 use asl_class_text::known_source;
 use asl_command_line::PathLimit;
 use asl_diagnose::diagnosed;
-use asl_lists::with_entries;
 use asl_lower::LowerFault;
 use asl_map::MapFault;
 use asl_points_to::ClassesFault;
@@ -20,71 +18,21 @@ use asl_warnings::warnings_text;
 use std::alloc::{AllocError, Global};
 
 /// Why the input is refused, as a person reads it, or nothing where it is not; and where that is asked for, what the text of a source
-/// may lack. Where entries are named, so of the source with what calls them.
+/// may lack.
 pub fn diagnosed_input(
     alloc: Global,
     assembly: bool,
     k_limit: &PathLimit,
     all: bool,
-    entries: &[String],
     input: &[u8],
 ) -> Result<Vec<u8>, CommandFault>
-    ensures ok { IfOk result (λ text. IsDiagnosedFor input.now assembly k_limit.now all (map string_bytes entries.now) text.items) }
+    ensures ok { IfOk result (λ text. IsDiagnosed input.now assembly k_limit.now all text.items) }
     ensures err { IfErr result IsRefusedDiagnose }
 {
-    match told_for(alloc, assembly, k_limit, all, entries, input) {
-        Ok(text) => Ok(text),
+    match told(alloc, assembly, k_limit, all, input) {
+        Ok(text) => Ok(text.into_bytes()),
         Err(_) => Err(CommandFault::OutOfMemory),
     }
-}
-
-/// The same as bytes.
-fn told_for(
-    alloc: Global,
-    assembly: bool,
-    k_limit: &PathLimit,
-    all: bool,
-    entries: &[String],
-    input: &[u8],
-) -> Result<Vec<u8>, AllocError>
-    ensures { IfOk result (λ text. IsDiagnosedFor input.now assembly k_limit.now all (map string_bytes entries.now) text.items) }
-{
-    if entries.is_empty() {
-        return told_bytes(alloc, assembly, k_limit, all, input);
-    }
-    told_of_entries(alloc, assembly, k_limit, all, entries, input)
-}
-
-/// The same of a source with entries, and behind it from which line on stands what calls them.
-fn told_of_entries(
-    alloc: Global,
-    assembly: bool,
-    k_limit: &PathLimit,
-    all: bool,
-    entries: &[String],
-    source: &[u8],
-) -> Result<Vec<u8>, AllocError>
-    ensures { IfOk result (λ text. IsDiagnosedWhole source.now assembly k_limit.now all (map string_bytes entries.now) text.items) }
-{
-    let whole = with_entries(alloc, source, entries)?;
-    let diagnosis = told_bytes(alloc, assembly, k_limit, all, &whole.text)?;
-    let note = line_note(alloc, source)?;
-    let text = with_note(diagnosis, note.as_str())?;
-    Ok(text)
-}
-
-/// The diagnosis of a text with a `main` or of an assembly text, as bytes.
-fn told_bytes(
-    alloc: Global,
-    assembly: bool,
-    k_limit: &PathLimit,
-    all: bool,
-    input: &[u8],
-) -> Result<Vec<u8>, AllocError>
-    ensures { IfOk result (λ text. IsDiagnosed input.now assembly k_limit.now all text.items) }
-{
-    let text = told(alloc, assembly, k_limit, all, input)?;
-    Ok(text.into_bytes())
 }
 
 /// The same as a text.

@@ -1,4 +1,4 @@
-use Rattle.std.proofs.Common.{ℕ, List, length, ap, sym, ◌∙◌, subst}
+use Rattle.std.proofs.Common.{ℕ, List, length, subst}
 use Rattle.std.specs.Prelude.{All}
 use Rattle.std.proofs.lemmas.Result.{IfOk-weaker, IfErr-weaker, err_from_is_err_and}
 use Rattle.asl_code.specs.declared.lock.Lock.{Lock}
@@ -10,14 +10,13 @@ use Rattle.asl_soundness.specs.Safe.{IsSafe, NeverFaultsForLocks}
 use Rattle.asl_atomicity.specs.Serial.{HasSerialRuns}
 use Rattle.asl_atomicity.specs.Renamed.{HasSerialRunsUpTo}
 use Rattle.asl_check.specs.declared.fault.CheckFault.TheVariants.{OtherCode}
-use Rattle.asl_check.specs.Checked.{AreGuarded, FirstListsCover}
-use Rattle.asl_check.specs.KnownLists.{AreAllInOrder, InNeeds, IsUncovered, IsUnguarded}
+use Rattle.asl_check.specs.Checked.{AreGuarded}
+use Rattle.asl_check.specs.KnownLists.{AreCovered, IsUncovered, IsUnguarded}
 use Rattle.asl_check.specs.Refused.{IsChecked, IsRefusedLists, IsOutOfMemory}
 use Rattle.asl_check.proofs.Covering.{covered_analysed, covered_sound}
 use Rattle.asl_check.proofs.Guarding.{guarded_serial, guarded_serial_up_to}
 use Rattle.asl_emitter.proofs.Outcomes.{accepted}
 use Rattle.asl_check.proofs.Complete.{only_memory}
-use Rattle.asl_check.proofs.Lists.{both_same}
 use Rattle.asl_check.proofs.Concluding.{is_other, is_checked, is_uncovered, is_unguarded}
 use Rattle.asl_check.proofs.checked.check.Goals as goal
 
@@ -25,38 +24,35 @@ pub returns-in-Some-clause-refused : goal.returns-in-Some-clause-refused
 returns-in-Some-clause-refused c =
     let a = c.in_ok-analysis.analysis in
     let e = c.in_ok-analysis.ensures in
-    is_other (tree_of c.args.ast.now) a.lowering a.classes c.args.k a.needs e.lowering e.classes e.needs e.accepted c.args.program.now c.in-Some.difference c.in-Some.ensures
+    is_other (tree_of c.args.ast.now) a.lowering a.classes c.args.k a.flow e.lowering e.classes e.flow e.accepted c.args.program.now c.in-Some.difference c.in-Some.ensures
 
-pub cover-requires-clause-needs : goal.cover-requires-clause-needs
-cover-requires-clause-needs c = ap (length {A = List Lock}) c.as_slice-needs.ensures ∙ c.in_ok-analysis.ensures.needs.count
-
-pub cover-requires-clause-order : goal.cover-requires-clause-order
-cover-requires-clause-order c = subst AreAllInOrder (sym c.as_slice-needs.ensures) c.in_ok-analysis.ensures.needs.order
+pub cover-requires-clause-parts : goal.cover-requires-clause-parts
+cover-requires-clause-parts c = c.in_ok-analysis.ensures.flow.apart
 
 pub returns-in_err-cover-clause-refused : goal.returns-in_err-cover-clause-refused
 returns-in_err-cover-clause-refused c =
     let a = c.in_ok-analysis.analysis in
     let e = c.in_ok-analysis.ensures in
     let p = err_from_is_err_and c.from_residual-in_err-cover.result c.from_residual-in_err-cover.ensures.1 in
-    rw (p.1, p.2) (is_uncovered (tree_of c.args.ast.now) a.lowering a.classes c.args.k a.needs e.lowering e.classes e.needs e.accepted c.args.program.now c.in_default.ensures c.in_err-cover.field-0.0
-    (both_same (λ (ns ls : List (List Lock)). IsUncovered a.lowering a.classes ns ls c.in_err-cover.field-0.0) _ _ _ _ c.as_slice-needs.ensures c.lists-lists.ensures.lists c.in_err-cover.ensures.uncovered))
+    rw (p.1, p.2) (is_uncovered (tree_of c.args.ast.now) a.lowering a.classes c.args.k a.flow e.lowering e.classes e.flow e.accepted c.args.program.now c.in_default.ensures c.in_err-cover.field-0.0
+    (subst (λ (ls : List (List Lock)). IsUncovered a.lowering a.classes a.flow ls c.in_err-cover.field-0.0) c.lists-lists.ensures.lists c.in_err-cover.ensures.uncovered))
 
 pub returns-clause-checked : goal.returns-clause-checked
 returns-clause-checked c =
     let a = c.in_ok-analysis.analysis in
     let e = c.in_ok-analysis.ensures in
-    let covered = both_same (λ (ns ls : List (List Lock)). FirstListsCover a.lowering a.classes (InNeeds ns) ls (length a.lowering.sections)) _ _ _ _ c.as_slice-needs.ensures c.lists-lists.ensures.lists c.in_ok-cover.ensures.covered in
+    let covered = subst (λ (ls : List (List Lock)). AreCovered a.lowering a.classes a.flow ls (length a.lowering.sections)) c.lists-lists.ensures.lists c.in_ok-cover.ensures.covered in
     IfOk-weaker c.guard.result (λ x. AreGuarded a.lowering a.classes c.lists-lists.result.now (length a.lowering.sections)) (λ x. IsChecked (tree_of c.args.ast.now) c.args.k c.args.program.now)
-    (λ x guarded. is_checked (tree_of c.args.ast.now) a.lowering a.classes c.args.k a.needs e.lowering e.classes e.needs e.accepted c.args.program.now c.in_default.ensures covered
+    (λ x guarded. is_checked (tree_of c.args.ast.now) a.lowering a.classes c.args.k a.flow e.lowering e.classes e.flow e.accepted c.args.program.now c.in_default.ensures covered
     (subst (λ (ls : List (List Lock)). AreGuarded a.lowering a.classes ls (length a.lowering.sections)) c.lists-lists.ensures.lists guarded)) c.guard.ensures.guarded
 
 pub returns-clause-sound : goal.returns-clause-sound
 returns-clause-sound c =
     let a = c.in_ok-analysis.analysis in
     let e = c.in_ok-analysis.ensures in
-    let covered = both_same (λ (ns ls : List (List Lock)). FirstListsCover a.lowering a.classes (InNeeds ns) ls (length a.lowering.sections)) _ _ _ _ c.as_slice-needs.ensures c.lists-lists.ensures.lists c.in_ok-cover.ensures.covered in
+    let covered = subst (λ (ls : List (List Lock)). AreCovered a.lowering a.classes a.flow ls (length a.lowering.sections)) c.lists-lists.ensures.lists c.in_ok-cover.ensures.covered in
     IfOk-weaker c.guard.result (λ x. AreGuarded a.lowering a.classes c.lists-lists.result.now (length a.lowering.sections)) (λ x. NeverFaultsForLocks c.args.program.now)
-    (λ x guarded. covered_sound a.lowering a.classes c.args.k a.needs c.args.program.now e.kept e.classes c.lists-lists.ensures.verified e.needs c.in_default.ensures covered) c.guard.ensures.guarded
+    (λ x guarded. covered_sound a.lowering a.classes c.args.k a.flow c.args.program.now e.kept e.classes c.lists-lists.ensures.verified e.flow c.in_default.ensures covered) c.guard.ensures.guarded
 
 pub returns-clause-safe : goal.returns-clause-safe
 returns-clause-safe c =
@@ -67,29 +63,29 @@ pub returns-clause-atomic : goal.returns-clause-atomic
 returns-clause-atomic c =
     let a = c.in_ok-analysis.analysis in
     let e = c.in_ok-analysis.ensures in
-    let covered = both_same (λ (ns ls : List (List Lock)). FirstListsCover a.lowering a.classes (InNeeds ns) ls (length a.lowering.sections)) _ _ _ _ c.as_slice-needs.ensures c.lists-lists.ensures.lists c.in_ok-cover.ensures.covered in
-    let analysed = covered_analysed a.lowering a.classes c.args.k a.needs c.args.program.now e.kept e.classes c.lists-lists.ensures.verified e.needs c.in_default.ensures covered in
+    let covered = subst (λ (ls : List (List Lock)). AreCovered a.lowering a.classes a.flow ls (length a.lowering.sections)) c.lists-lists.ensures.lists c.in_ok-cover.ensures.covered in
+    let analysed = covered_analysed a.lowering a.classes c.args.k a.flow c.args.program.now e.kept e.classes c.lists-lists.ensures.verified e.flow c.in_default.ensures covered in
     IfOk-weaker c.guard.result (λ x. AreGuarded a.lowering a.classes c.lists-lists.result.now (length a.lowering.sections)) (λ x. (count : ℕ) → HasSerialRuns c.args.program.now count)
-    (λ x guarded. guarded_serial a.lowering a.classes e.needs.stores c.args.k c.args.program.now analysed
+    (λ x guarded. guarded_serial a.lowering a.classes e.flow.stores c.args.k c.args.program.now analysed
     (subst (λ (ls : List (List Lock)). AreGuarded a.lowering a.classes ls (length a.lowering.sections)) c.lists-lists.ensures.lists guarded)) c.guard.ensures.guarded
 
 pub returns-clause-atomic_up_to_numbers : goal.returns-clause-atomic_up_to_numbers
 returns-clause-atomic_up_to_numbers c =
     let a = c.in_ok-analysis.analysis in
     let e = c.in_ok-analysis.ensures in
-    let covered = both_same (λ (ns ls : List (List Lock)). FirstListsCover a.lowering a.classes (InNeeds ns) ls (length a.lowering.sections)) _ _ _ _ c.as_slice-needs.ensures c.lists-lists.ensures.lists c.in_ok-cover.ensures.covered in
-    let analysed = covered_analysed a.lowering a.classes c.args.k a.needs c.args.program.now e.kept e.classes c.lists-lists.ensures.verified e.needs c.in_default.ensures covered in
+    let covered = subst (λ (ls : List (List Lock)). AreCovered a.lowering a.classes a.flow ls (length a.lowering.sections)) c.lists-lists.ensures.lists c.in_ok-cover.ensures.covered in
+    let analysed = covered_analysed a.lowering a.classes c.args.k a.flow c.args.program.now e.kept e.classes c.lists-lists.ensures.verified e.flow c.in_default.ensures covered in
     IfOk-weaker c.guard.result (λ x. AreGuarded a.lowering a.classes c.lists-lists.result.now (length a.lowering.sections)) (λ x. (count : ℕ) → HasSerialRunsUpTo c.args.program.now count)
-    (λ x guarded. guarded_serial_up_to a.lowering a.classes e.needs.stores c.args.k c.args.program.now analysed
+    (λ x guarded. guarded_serial_up_to a.lowering a.classes e.flow.stores c.args.k c.args.program.now analysed
     (subst (λ (ls : List (List Lock)). AreGuarded a.lowering a.classes ls (length a.lowering.sections)) c.lists-lists.ensures.lists guarded)) c.guard.ensures.guarded
 
 pub returns-clause-refused : goal.returns-clause-refused
 returns-clause-refused c =
     let a = c.in_ok-analysis.analysis in
     let e = c.in_ok-analysis.ensures in
-    let covered = both_same (λ (ns ls : List (List Lock)). FirstListsCover a.lowering a.classes (InNeeds ns) ls (length a.lowering.sections)) _ _ _ _ c.as_slice-needs.ensures c.lists-lists.ensures.lists c.in_ok-cover.ensures.covered in
+    let covered = subst (λ (ls : List (List Lock)). AreCovered a.lowering a.classes a.flow ls (length a.lowering.sections)) c.lists-lists.ensures.lists c.in_ok-cover.ensures.covered in
     IfErr-weaker c.guard.result (IsUnguarded a.lowering a.classes c.lists-lists.result.now) (IsRefusedLists (tree_of c.args.ast.now) c.args.k c.args.program.now)
-    (λ x h. is_unguarded (tree_of c.args.ast.now) a.lowering a.classes c.args.k a.needs e.lowering e.classes e.needs e.accepted c.args.program.now c.in_default.ensures covered x
+    (λ x h. is_unguarded (tree_of c.args.ast.now) a.lowering a.classes c.args.k a.flow e.lowering e.classes e.flow e.accepted c.args.program.now c.in_default.ensures covered x
     (subst (λ (ls : List (List Lock)). IsUnguarded a.lowering a.classes ls x) c.lists-lists.ensures.lists h)) c.guard.ensures.unguarded
 
 pub returns-in_err-analysis-clause-inferred : goal.returns-in_err-analysis-clause-inferred

@@ -1,31 +1,30 @@
-use Rattle.std.proofs.Common.{◌≡◌, true, false, sym, subst, inl, inr, arith}
-use Rattle.asl_lock_expr.specs.Links.{IsOne}
-use Rattle.asl_emitter.specs.Lists.{IsFree}
-use Rattle.asl_check.specs.Checked.{IsUnderOne, LacksFirst}
-use Rattle.asl_check.proofs.Judging.{judged_more, lacks_next, judged_all}
+use Rattle.std.proofs.Common.{length, sym, ap, ◌∙◌, subst, arith}
+use Rattle.std.proofs.lemmas.Option.{slice_get_within}
+use Rattle.asl_code.specs.declared.lock.Lock.{Lock}
+use Rattle.asl_lower.specs.Regions.{Inside}
+use Rattle.asl_backward_flow.specs.Needed.{IsInNeeds}
+use Rattle.asl_check.specs.Checked.{LacksFirst}
+use Rattle.asl_check.proofs.Judging.{its_lock, under_told, lacks_told}
 use Rattle.asl_check.proofs.lacking.lacking.Goals as goal
 
-pub loop-lock-preserved-then-is_under_one : goal.loop-lock-preserved-then-is_under_one
-loop-lock-preserved-then-is_under_one c =
-    judged_more c.args.classes.now c.args.function c.args.list.now c.args.needed.now c.loop-lock.lock-index c.lock-item.result c.loop-lock-test.true (sym c.lock-item.is) c.loop-lock.invariant
-    (inl (c.is_under_one.ensures.0 c.if-is_under_one.true))
+pub returns-in_err-first : goal.returns-in_err-first
+returns-in_err-first c =
+    let p = c.in_ok-place.ensures in
+    rw c.from_residual-in_err-first.ensures (under_told c.args.flow.now c.requires (Inside c.args.number) c.in_ok-place.place p.0 p.1 p.2 c.args.pc c.args.classes.now c.args.function c.args.list.now (c.in_err-first.ensures p.0 p.1))
 
-pub loop-lock-preserved : goal.loop-lock-preserved
-loop-lock-preserved c =
-    let bare : ¬ IsUnderOne c.args.classes.now c.args.function c.args.list.now c.lock-item.result = λ u.
-    (let under : c.is_under_one.result ≡ true = c.is_under_one.ensures.1 u in let not_under : c.is_under_one.result ≡ false = c.if-is_under_one.false in cc) in
-    let held : ¬ IsFree c.args.classes.now c.args.function (IsOne c.args.needed.now) c.lock-item.result = λ free.
-    (let all : c.is_free.result ≡ true = c.is_free.ensures.1 free in let not_all : c.is_free.result ≡ false = c.if-is_free.false in cc) in
-    judged_more c.args.classes.now c.args.function c.args.list.now c.args.needed.now c.loop-lock.lock-index c.lock-item.result c.loop-lock-test.true (sym c.lock-item.is) c.loop-lock.invariant (inr (bare, held))
-
-pub returns-then-is_free : goal.returns-then-is_free
-returns-then-is_free c =
-    let bare : ¬ IsUnderOne c.args.classes.now c.args.function c.args.list.now c.lock-item.result = λ u.
-    (let under : c.is_under_one.result ≡ true = c.is_under_one.ensures.1 u in let not_under : c.is_under_one.result ≡ false = c.if-is_under_one.false in cc) in
-    subst (LacksFirst c.args.classes.now c.args.function c.args.list.now (IsOne c.args.needed.now)) (sym c.copied.ensures)
-    (lacks_next c.args.classes.now c.args.function c.args.list.now c.args.needed.now c.loop-lock.lock-index c.lock-item.result c.requires c.loop-lock-test.true (sym c.lock-item.is) c.loop-lock.invariant bare (c.is_free.ensures.0 c.if-is_free.true))
+pub returns-in_err-lock : goal.returns-in_err-lock
+returns-in_err-lock c =
+    let p = c.in_ok-place.ensures in
+    let l = c.in_ok-first.ensures p.0 p.1 in
+    let within = slice_get_within p.0.locks c.in_ok-first.first l.0 l.1 in
+    let past = c.in_err-lock.ensures.lookup.3 in
+    let same = ap (length {A = Lock}) (c.locks.ensures p.0 p.1) in
+    absurd (omega (arith, within, past, same))
 
 pub returns : goal.returns
 returns c =
-    let past = c.loop-lock-test.false in
-    judged_all c.args.classes.now c.args.function c.args.list.now c.args.needed.now c.loop-lock.lock-index (omega (arith, past)) c.loop-lock.invariant
+    let p = c.in_ok-place.ensures in
+    let l = c.in_ok-first.ensures p.0 p.1 in
+    let same = its_lock c.locks.result.now p.0.locks c.in_ok-first.first c.in_ok-lock.lock.now l.0 (c.locks.ensures p.0 p.1) c.in_ok-lock.ensures.lookup.3.0 c.in_ok-lock.ensures.lookup.1 l.1 in
+    lacks_told c.args.flow.now c.requires (Inside c.args.number) c.in_ok-place.place p.0 p.1 p.2 c.args.pc c.args.classes.now c.args.function c.args.list.now c.copied.result
+    (subst (LacksFirst c.args.classes.now c.args.function c.args.list.now (IsInNeeds p.0 c.args.pc)) (sym (c.copied.ensures ∙ same)) l.2)

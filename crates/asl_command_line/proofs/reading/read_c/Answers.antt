@@ -7,4 +7,4 @@ use Rattle.asl_command_line.proofs.reading.read_c.Goals as goal
 pub returns-in-Err : goal.returns-in-Err
 returns-in-Err c =
     misused c.invalid.result (codes "c") (rows_of (found_of c.args.values.now)) _ c.invalid.ensures
-    (inr (inr (inr (inr (inr (inl (inr refl, record { none = c.in-Err.ensures.err; text_is = ap (λ (v : Text). invalid_text v (codes "--k <K>") a_length_or_auto) c.in-Err.ensures.named })))))))
+    (inr (inr (inr (inr (inr (inl (inr refl, inl (record { none = c.in-Err.ensures.err; text_is = ap (λ (v : Text). invalid_text v (codes "--k <K>") a_length_or_auto) c.in-Err.ensures.named }))))))))

@@ -11,4 +11,4 @@ returns-in-Err-NoName c =
     let rows = rows_of (found_of c.args.values.now) in
     let err = subst (IsEntriesFault (words_at (codes "entry") rows)) c.in-Err-NoName.field-0-is c.in-Err-NoName.ensures.err in
     misused c.no_entry.result (codes "c") rows _ c.no_entry.ensures
-    (inr (inr (inr (inr (inr (inr (inl (inr (inl refl), record { word = c.in-Err-NoName.word.now; its = err.0; none = err.1; text_is = ap (λ (w : Bor Text). invalid_text w.now (codes "--entry <F>") a_name) c.in-Err-NoName.word-is }))))))))
+    (inr (inr (inr (inr (inr (inl (inr refl, inr (record { word = c.in-Err-NoName.word.now; its = err.0; none = err.1; text_is = ap (λ (w : Bor Text). invalid_text w.now (codes "--entry <F>") a_name) c.in-Err-NoName.word-is }))))))))

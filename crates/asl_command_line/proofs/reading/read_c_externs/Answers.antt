@@ -11,7 +11,7 @@ returns-in-Err-NoExtern c =
     let rows = rows_of (found_of c.args.values.now) in
     let err = subst (IsExternsFault (words_at (codes "extern") rows)) c.in-Err-NoExtern.field-0-is c.in-Err-NoExtern.ensures.err in
     misused c.no_extern.result (codes "c") rows _ c.no_extern.ensures
-    (inr (inr (inr (inr (inr (inr (inr (inl (
+    (inr (inr (inr (inr (inr (inr (inl (
       refl,
       record {
         word = c.in-Err-NoExtern.word.now;
@@ -19,4 +19,4 @@ returns-in-Err-NoExtern c =
         wrong = err;
         text_is = told_alike c.in-Err-NoExtern.word-is c.in-Err-NoExtern.why-is;
       },
-    )))))))))
+    ))))))))

@@ -16,6 +16,6 @@ returns c =
     if_ok_so c.is_chain.result _ (IsEnding x c.args.number c.args.lock.now c.args.ending.now)
     (λ chain. record {
       chain = subst (λ (steps : List Step). IsChain x (Inside c.args.number) (suc c.args.ending.now.pc) c.args.lock.now steps) c.as_slice-steps.ensures chain;
-      dropped = c.is_dropped.ensures.0 c.if-not-is_dropped.false;
+      dropped = c.is_dropped.ensures c.if-not-is_dropped.false;
     })
     c.is_chain.ensures.chain

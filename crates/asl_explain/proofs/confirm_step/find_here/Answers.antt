@@ -10,4 +10,4 @@ returns c =
     let a = c.args.analysis.now in
     let s = c.args.step.now in
     stands_here a (region_of s.region) s.pc c.in_ok-function.function c.in_ok-instr.instr s.lock
-    (subst (λ pc. Needs (read a) (region_of s.region) pc s.lock) c.from.ensures (c.is_needed.ensures.0 c.if-not-is_needed.false)) c.in_ok-function.ensures (sym c.in_ok-instr.ensures)
+    (subst (λ pc. Needs (read a) (region_of s.region) pc s.lock) c.from.ensures (c.is_needed.ensures c.if-not-is_needed.false)) c.in_ok-function.ensures (sym c.in_ok-instr.ensures)

@@ -39,7 +39,7 @@ returns c =
       reasons = c.in-Ok.ensures.reasoned;
       classes = ts;
       are_told = subst (λ (ts : List (Option ClassTold)). AreTold r c.args.all t.sections f.count ts) (sym c.deref.ensures.value)
-          (told_alike r c.args.all t.sections own f.count c.in_ok-told.told.items (own_lists (read a) c.args.all own t.sections fitted.count t.made) c.in_ok-told.ensures);
+          (told_alike r c.args.all t.sections own f.count c.in_ok-told.told.items (own_lists (read a) own t.sections fitted.count t.made) c.in_ok-told.ensures);
       front = text;
       tells = subst (λ (ls : List Lists). IsMadeOf (sections_told (g ls) 0 t.sections t.ended) text) c.as_slice.ensures (tells_whole (sections_told (g lengths) 0 t.sections t.ended) text t.tells);
       ends = c.in_ok-push_warnings.ensures;

@@ -1,7 +1,6 @@
 use Rattle.std.proofs.Common.{◌≡◌, List, Some, length, slice_get, get_or, string_bytes, refl, ap, sym, ◌∙◌, subst, arith}
 use Rattle.std.proofs.lemmas.Option.{slice_get-get_or, slice_get_read}
 use Rattle.asl_lower.specs.declared.section.Section.{Section}
-use Rattle.asl_explain.proofs.CoveredNeed.{are_covering}
 use Rattle.asl_explain.specs.Analysed.{read}
 use Rattle.asl_explain.specs.Telling.{TellsSections, given}
 use Rattle.asl_explain.proofs.Sectionwise.{tells_no_section, tells_section_more}
@@ -28,20 +27,6 @@ push_explained-requires-clause-there c =
     ap (λ (ss : List Section). slice_get ss n) (sym c.sections-section-items.ensures.sections)
     ∙ slice_get-get_or c.sections-section-items.result.now n (record { function = 0; acquire = 0; release = 0 }) c.loop-number-test.true
 
-pub push_explained-requires-clause-covers : goal.push_explained-requires-clause-covers
-push_explained-requires-clause-covers c =
-    let l = c.args.analysis.now.lowering in
-    let n = c.loop-number.number in
-    let s : Section = get_or c.sections-section-items.result.now n (record { function = 0; acquire = 0; release = 0 }) in
-    let there : slice_get l.sections n ≡ Some s =
-    ap (λ (ss : List Section). slice_get ss n) (sym c.sections-section-items.ensures.sections)
-    ∙ slice_get-get_or c.sections-section-items.result.now n (record { function = 0; acquire = 0; release = 0 }) c.loop-number-test.true in
-    let many = ap (length {A = Section}) c.sections-section-items.ensures.sections in
-    let lt = c.loop-number-test.true in
-    let req = c.requires.fitted.count in
-    let at = slice_get_read c.args.lists.now (length c.args.lists.now) n c.index-lists-number.result refl (omega (arith, many, lt, req)) c.index-lists-number.is in
-    are_covering c.args.analysis.now c.requires.analysed c.args.lists.now (length l.sections) n s c.as_slice-list.result.now c.requires.fitted there (at ∙ ap Some (sym c.as_slice-list.ensures))
-
 pub loop-number-preserved : goal.loop-number-preserved
 loop-number-preserved c =
     let l = c.args.analysis.now.lowering in
@@ -53,7 +38,7 @@ loop-number-preserved c =
     ∙ slice_get-get_or c.sections-section-items.result.now n (record { function = 0; acquire = 0; release = 0 }) c.loop-number-test.true in
     let many = ap (length {A = Section}) c.sections-section-items.ensures.sections in
     let lt = c.loop-number-test.true in
-    let req = c.requires.fitted.count in
+    let req = c.requires.count in
     let at = slice_get_read c.args.lists.now (length c.args.lists.now) n c.index-lists-number.result refl (omega (arith, many, lt, req)) c.index-lists-number.is in
     record {
       tells = tells_section_more (read c.args.analysis.now) c.args.lists.now g n s c.as_slice-list.result.now (string_bytes c.loop-number.text) (string_bytes c.push_explained.new.text) there (at ∙ ap Some (sym c.as_slice-list.ensures))

@@ -5,6 +5,6 @@ use Rattle.asl_explain.proofs.making.all_listed.Given as goal
 
 abbrev pub invariant-loop-lock : goal.invariant-loop-lock
 invariant-loop-lock l = record {
-  listed : AreListed (read l.analysis) l.all l.number l.section (take l.lock-index l.list) l.listed_locks.items;
+  listed : AreListed (read l.analysis) l.number l.section (take l.lock-index l.list) l.listed_locks.items;
   known : AreKnown (read l.analysis) l.known;
 }

@@ -1,7 +1,6 @@
-use Rattle.std.proofs.Common.{◌≡◌, true, List, Some, length, slice_get, get_or, ap, sym, ◌∙◌, subst, refl, arith}
+use Rattle.std.proofs.Common.{◌≡◌, List, Some, length, slice_get, get_or, ap, sym, ◌∙◌, subst, refl, arith}
 use Rattle.std.proofs.lemmas.Option.{slice_get-get_or, slice_get_read}
 use Rattle.asl_lower.specs.declared.section.Section.{Section}
-use Rattle.asl_explain.proofs.CoveredNeed.{are_covering}
 use Rattle.asl_explain.specs.declared.explained_value.Listed.{Listed}
 use Rattle.asl_explain.specs.Analysed.{read, AreSections}
 use Rattle.asl_explain.proofs.Needing.{sections_more}
@@ -14,20 +13,6 @@ overflow_cast-number c =
     let lt = c.loop-number-test.true in
     omega (arith, few, same, lt)
 
-pub explained_section-requires-clause-covers : goal.explained_section-requires-clause-covers
-explained_section-requires-clause-covers c =
-    let l = c.args.analysis.now.lowering in
-    let n = c.loop-number.number in
-    let s : Section = get_or c.sections-section-items.result.now n (record { function = 0; acquire = 0; release = 0 }) in
-    let there : slice_get l.sections n ≡ Some s =
-    ap (λ (ss : List Section). slice_get ss n) (sym c.sections-section-items.ensures.sections)
-    ∙ slice_get-get_or c.sections-section-items.result.now n (record { function = 0; acquire = 0; release = 0 }) c.loop-number-test.true in
-    let many = ap (length {A = Section}) c.sections-section-items.ensures.sections in
-    let lt = c.loop-number-test.true in
-    let req = c.requires.fitted.count in
-    let at = slice_get_read c.args.lists.now (length c.args.lists.now) n c.index-lists-number.result refl (omega (arith, many, lt, req)) c.index-lists-number.is in
-    are_covering c.args.analysis.now c.requires.analysed c.args.lists.now (length l.sections) n s c.as_slice-list.result.now c.requires.fitted there (at ∙ ap Some (sym c.as_slice-list.ensures))
-
 pub loop-number-preserved : goal.loop-number-preserved
 loop-number-preserved c =
     let l = c.args.analysis.now.lowering in
@@ -38,10 +23,10 @@ loop-number-preserved c =
     ∙ slice_get-get_or c.sections-section-items.result.now n (record { function = 0; acquire = 0; release = 0 }) c.loop-number-test.true in
     let many = ap (length {A = Section}) c.sections-section-items.ensures.sections in
     let lt = c.loop-number-test.true in
-    let req = c.requires.fitted.count in
+    let req = c.requires.count in
     let at = slice_get_read c.args.lists.now (length c.args.lists.now) n c.index-lists-number.result refl (omega (arith, many, lt, req)) c.index-lists-number.is in
     record {
-      sections = sections_more (read c.args.analysis.now) true c.args.lists.now n s c.as_slice-list.result.now c.loop-number.sections.items c.push.new.self.items c.in_ok-explained_section.field-0 c.in_ok-push.ensures.items there
+      sections = sections_more (read c.args.analysis.now) c.args.lists.now n s c.as_slice-list.result.now c.loop-number.sections.items c.push.new.self.items c.in_ok-explained_section.field-0 c.in_ok-push.ensures.items there
           (at ∙ ap Some (sym c.as_slice-list.ensures)) c.loop-number.invariant.sections c.in_ok-explained_section.ensures.listed;
       known = c.in_ok-explained_section.ensures.known;
     }
@@ -54,5 +39,5 @@ returns-clause-sections c =
     let past = c.loop-number-test.false in
     let within = c.loop-number.auto.number-end in
     let end : c.loop-number.number ≡ length l.sections = omega (arith, many, past, within) in
-    subst (λ (ss : List (List Listed)). AreSections x true c.args.lists.now (length l.sections) ss) (sym c.from_vec.ensures)
-    (subst (λ n. AreSections x true c.args.lists.now n c.loop-number.sections.items) end c.loop-number.invariant.sections)
+    subst (λ (ss : List (List Listed)). AreSections x c.args.lists.now (length l.sections) ss) (sym c.from_vec.ensures)
+    (subst (λ n. AreSections x c.args.lists.now n c.loop-number.sections.items) end c.loop-number.invariant.sections)

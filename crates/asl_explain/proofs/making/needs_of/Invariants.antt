@@ -1,7 +1,7 @@
-use Rattle.std.proofs.Common.{◌≡◌, ◌↔◌, ◌≤◌, true, length, take}
+use Rattle.std.proofs.Common.{◌≡◌, ◌↔◌, take}
 use Rattle.asl_code.specs.declared.lock.Lock.{Lock}
 use Rattle.asl_lock_expr.specs.Links.{IsOne}
-use Rattle.asl_explain.specs.Explained.{AreNeeds, AreReached, IsOneOf, IsReached, locks_of}
+use Rattle.asl_explain.specs.Explained.{AreNeeds, IsOneOf, locks_of}
 use Rattle.asl_explain.specs.Analysed.{read}
 use Rattle.asl_explain.specs.Known.{AreKnown}
 use Rattle.asl_explain.proofs.making.needs_of.Given as goal
@@ -12,7 +12,4 @@ invariant-loop-lock l = record {
   locks : (n : Lock) → IsOneOf l.needs.items n ↔ IsOne (take l.lock-index l.locks) n;
   known : AreKnown (read l.analysis) l.known;
   same : locks_of l.needs.items ≡ take l.lock-index l.locks;
-  reached : l.is_reached ≡ true → IsReached l.needs.items;
-  last : length l.locks ≤ l.lock-index → l.is_reached ≡ true;
-  each : l.all ≡ true → AreReached l.needs.items;
 }
